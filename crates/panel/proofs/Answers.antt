@@ -1,0 +1,58 @@
+-- What a channel's answer says of what stands in it: accepted at the point that its report was put to, or refused for a listed
+-- reason and no other. A point that passed its checks lies on the grid table, so that its water is known. Assumes nothing.
+use Prim.Native.Nat.{ℕ}
+use mathlib.Core.Path.{_≡_, refl, sym, _∙_, subst}
+use native.Mathlib.Omega.{arith}
+use Rattle.refusals.specs.declared.Refusal.{Refusal}
+use Rattle.readings.specs.declared.Point.{Point}
+use Rattle.readings.specs.declared.Report.{Report}
+use Rattle.readings.specs.declared.Checked.{Checked}
+use Rattle.readings.specs.Check.{checkedOf}
+use Rattle.readings.specs.Answers.{OnGrid, Reason}
+use Rattle.readings.proofs.Answers as reading
+use Rattle.sea.specs.declared.Water.{Water}
+use Rattle.sea.specs.Water.{waterOf}
+use Rattle.sea.proofs.Answers.{OnTable, known-on-table}
+use Rattle.panel.specs.declared.Entry.{Entry}
+use Rattle.panel.specs.declared.Channel.{Channel}
+use Rattle.panel.specs.Panel.{filled, wateredOf, checkedChannel, channelOf}
+
+-- a channel's three cases
+pub data Case : Entry → Channel → Type 0 where
+  accepted : (report : Report) (p : Point) (d k : ℕ) → checkedOf report ≡ Checked.Taken p → waterOf (p .sigma) (p .tau) (p .pi) ≡ Water.Known d k
+      → Case (Entry.Reading report) (Channel.Accepted p d k)
+  refused : (report : Report) (r : Refusal) → checkedOf report ≡ Checked.Refused r → Case (Entry.Reading report) (Channel.Refused r)
+  no-record : (r : Refusal) → Case (Entry.Refused r) (Channel.Refused r)
+
+unknown : {d k : ℕ} {r : Refusal} → Water.Known d k ≡ Water.Refused r → ⊥
+unknown e = let z : _≡_ {A = ℕ} 0 1 = cc in omega arith
+
+on-table : (p : Point) → OnGrid p → OnTable (p .sigma) (p .tau) (p .pi)
+on-table p g =
+    record {
+      salinity = record { low = g .sigma-low; high = g .sigma-high };
+      temperature = record { low = g .tau-low; high = g .tau-high };
+      pressure = record { low = g .pi-low; high = g .pi-high };
+    }
+
+by-water : (report : Report) (p : Point) → checkedOf report ≡ Checked.Taken p → (w : Water) → waterOf (p .sigma) (p .tau) (p .pi) ≡ w → Case (Entry.Reading report) (filled p w)
+by-water report p c (Water.Known d k) e = accepted report p d k c e
+by-water report p c (Water.Refused r) e =
+    absurd (unknown (sym (known-on-table (p .sigma) (p .tau) (p .pi) (on-table p (reading.taken-on-grid report p c))) ∙ e))
+
+by-check : (report : Report) (c : Checked) → checkedOf report ≡ c → Case (Entry.Reading report) (checkedChannel c)
+unfolding wateredOf
+by-check report (Checked.Taken p) e = by-water report p e (waterOf (p .sigma) (p .tau) (p .pi)) refl
+by-check report (Checked.Refused r) e = refused report r e
+
+pub case-of : (e : Entry) → Case e (channelOf e)
+unfolding channelOf
+case-of (Entry.Reading report) = by-check report (checkedOf report) refl
+case-of (Entry.Refused r) = no-record r
+
+-- ---- a reading is refused only for a listed reason
+pub refused-only : (report : Report) (r : Refusal) → channelOf (Entry.Reading report) ≡ Channel.Refused r → Reason report r
+refused-only report r e = go (subst (Case (Entry.Reading report)) e (case-of (Entry.Reading report)))
+  where
+    go : Case (Entry.Reading report) (Channel.Refused r) → Reason report r
+    go (refused _ _ c) = reading.refused-only report r c

@@ -1,0 +1,32 @@
+-- What an accepted channel shows lies on the grid's numbers: it is small, and the recorder's float stands for it alone. Assumes nothing.
+use Prim.Native.Nat.{ℕ, _≤_, _<_}
+use mathlib.Core.Path.{_≡_, subst}
+use native.Mathlib.Omega.{arith}
+use lib.IntN.{pos}
+use Rattle.readings.specs.declared.Point.{Point}
+use Rattle.readings.specs.Grid.{gridNo}
+use Rattle.readings.specs.Recorder.{recorderOf}
+use Rattle.readings.proofs.Quotient.{recorder-back}
+use Rattle.sea.proofs.Answers.{Shown, known-shows}
+use Rattle.panel.specs.declared.Entry.{Entry}
+use Rattle.panel.specs.declared.Channel.{Channel}
+use Rattle.panel.specs.Panel.{channelOf, Small}
+use Rattle.panel.proofs.Answers.{Case, accepted, refused, no-record, case-of}
+
+pub accepted-shows : (e : Entry) (p : Point) (d k : ℕ) → channelOf e ≡ Channel.Accepted p d k → Shown (p .sigma) (p .tau) (p .pi) d k
+accepted-shows e p d k h = go e (subst (Case e) h (case-of e))
+  where
+    go : (e : Entry) → Case e (Channel.Accepted p d k) → Shown (p .sigma) (p .tau) (p .pi) d k
+    go _ (accepted report _ _ _ c w) = known-shows (p .sigma) (p .tau) (p .pi) w
+
+by-case : {e : Entry} {c : Channel} → Case e c → Small c
+by-case (accepted report p d k c w) = let s = known-shows (p .sigma) (p .tau) (p .pi) w in omega (arith, s .density-high)
+by-case (refused report r c) = tt
+by-case (no-record r) = tt
+
+pub shown-small : (e : Entry) → Small (channelOf e)
+shown-small e = by-case (case-of e)
+
+-- put back on the grid of 0.001, the recorder's float gives the shown number
+pub recorded-back : (e : Entry) (p : Point) (d k : ℕ) → channelOf e ≡ Channel.Accepted p d k → gridNo 1000 (recorderOf d) ≡ pos d
+recorded-back e p d k h = recorder-back d (let s = accepted-shows e p d k h in omega (arith, s .density-high))

@@ -1,0 +1,71 @@
+-- Document 01, "Refusal numbers and their order" and "Needle": a channel from what stands in it, the needle from two channels.
+use Prim.Native.Nat.{ℕ, _+_, _<_}
+use lib.IntN.{ℤ, pos, _-ℤ_}
+use Rattle.refusals.specs.declared.Refusal.{Refusal}
+use Rattle.refusals.specs.Number.{numberOf}
+use Rattle.readings.specs.declared.Point.{Point}
+use Rattle.readings.specs.declared.Checked.{Checked}
+use Rattle.readings.specs.Check.{checkedOf}
+use Rattle.sea.specs.declared.Water.{Water}
+use Rattle.sea.specs.Water.{waterOf}
+use Rattle.panel.specs.declared.Entry.{Entry}
+use Rattle.panel.specs.declared.Channel.{Channel}
+use Rattle.panel.specs.declared.Needle.{Needle}
+use Rattle.panel.specs.declared.Pair.{Pair}
+
+-- ---- a channel
+-- the water at a point of the grid
+abbrev pub filled : Point → Water → Channel
+filled p (Water.Known d k) = Channel.Accepted p d k
+filled p (Water.Refused r) = Channel.Refused r
+
+unfoldable pub wateredOf : Point → Channel
+wateredOf p = filled p (waterOf (p .sigma) (p .tau) (p .pi))
+
+-- a reading that passes its checks is worked out at its point of the grid; one that does not is refused by the first that fails
+abbrev pub checkedChannel : Checked → Channel
+checkedChannel (Checked.Taken p) = wateredOf p
+checkedChannel (Checked.Refused r) = Channel.Refused r
+
+-- each channel depends on what stands in it alone
+unfoldable pub channelOf : Entry → Channel
+channelOf (Entry.Reading report) = checkedChannel (checkedOf report)
+channelOf (Entry.Refused r) = Channel.Refused r
+
+-- the paper's number and values for each case: the refusal's number (0 for none), the shown density, the bulk modulus
+abbrev pub numberIn : Channel → ℕ
+numberIn (Channel.Accepted p d k) = 0
+numberIn (Channel.Refused r) = numberOf r
+
+abbrev pub densityIn : Channel → ℕ
+densityIn (Channel.Accepted p d k) = d
+densityIn (Channel.Refused r) = 0
+
+abbrev pub bulkIn : Channel → ℕ
+bulkIn (Channel.Accepted p d k) = k
+bulkIn (Channel.Refused r) = 0
+
+-- ---- the needle: shown density of the right, at its own pressure, minus that of the left, at its own; refused exactly if a
+-- channel is, by 100 plus the left's number if the left is refused, otherwise by 200 plus the right's
+unfoldable pub needleOf : Channel → Channel → Needle
+needleOf (Channel.Refused r) c = Needle.Refused (100 + numberOf r)
+needleOf (Channel.Accepted p d k) (Channel.Refused r) = Needle.Refused (200 + numberOf r)
+needleOf (Channel.Accepted p d k) (Channel.Accepted p′ d′ k′) = Needle.Value (pos d′ -ℤ pos d)
+
+-- the paper's number (0 for none) and value for each case
+abbrev pub needleNumber : Needle → ℕ
+needleNumber (Needle.Value z) = 0
+needleNumber (Needle.Refused n) = n
+
+abbrev pub needleValue : Needle → ℤ
+needleValue (Needle.Value z) = z
+needleValue (Needle.Refused n) = pos 0
+
+-- ---- a pair: left and right, each from what stands in it, and their needle
+unfoldable pub pairOf : Entry → Entry → Pair
+pairOf l r = record { left = channelOf l; right = channelOf r; needle = needleOf (channelOf l) (channelOf r) }
+
+-- ---- a channel that shows a density of seven digits at most, as every channel does: `shown-small` of proofs/Sizes
+abbrev pub Small : Channel → Type 0
+Small (Channel.Accepted p d k) = d < 10_000_000
+Small (Channel.Refused r) = Unit {0}

@@ -1,0 +1,57 @@
+-- Demand 3: each promise of specs/Promises, from the law that shows it; and the ranges that other rooms use. Assumes nothing.
+use Prim.Native.Nat.{ℕ, suc, _≤_, _<_}
+use native.Mathlib.Omega.{arith}
+use lib.IntN.{ℤ, pos}
+use Rattle.whole.specs.Fraction.{Frac}
+use Rattle.whole.proofs.Ints.{of-≤ℤ, sub-is}
+use Rattle.sea.specs.Recipe.{rowsAt, rootAt, shownOf, shownAt, modulusAt}
+use Rattle.promises.specs.Formula.{densityF}
+use Rattle.promises.specs.Promises.{OnGrid, Rooted, panel, ShownWithin, StifferThanPressure, Saltier, Deeper, RightHeavier, LeftHeavier, NeedleWithin}
+use Rattle.promises.proofs.Rise.{rising}
+use Rattle.promises.proofs.Pressure.{pressure-rising}
+use Rattle.promises.proofs.Salt.{salt-step}
+use Rattle.promises.proofs.Needle.{to-within, difference-within, heavier}
+use Rattle.promises.proofs.Grid.{root, root-high, rows-lie, numbers-lie, shown-at-near, panel-near}
+
+pub within : ShownWithin
+within σ τ π x g v = to-within (omega arith) (omega arith) (omega arith) (shown-at-near g x v)
+
+pub stiffer-than-pressure : StifferThanPressure
+unfolding modulusAt
+stiffer-than-pressure σ τ π g = omega (arith, numbers-lie g .hundredths-low)
+
+pub saltier : Saltier
+saltier σ σ′ τ π g g′ more = omega (arith, rising (λ s. shownAt s τ π) 42_000 step σ σ′ (omega arith) (g′ .salt))
+  where
+    step : (s : ℕ) → s < 42_000 → shownAt s τ π ≤ shownAt (suc s) τ π
+    step s h = unfold shownAt in salt-step (rowsAt τ) (rows-lie g) π (g .deep) s (rootAt s) (rootAt (suc s)) h (root s (omega arith)) (root (suc s) h)
+
+pub deeper : Deeper
+unfolding shownAt
+deeper σ τ π π′ g g′ more =
+    omega (arith, pressure-rising (rowsAt τ) (rows-lie g) σ (rootAt σ) (g .salt) (root-high σ (g .salt)) π π′ (omega arith) (g′ .deep))
+
+pub right-heavier : RightHeavier
+right-heavier left right two =
+    heavier (panel left) (panel right) (panel-near left) (panel-near right) (omega (arith, of-≤ℤ _ _ two, sub-is (pos (panel right)) (pos (panel left))))
+
+pub left-heavier : LeftHeavier
+left-heavier left right two =
+    heavier (panel right) (panel left) (panel-near right) (panel-near left) (omega (arith, of-≤ℤ _ _ two, sub-is (pos (panel right)) (pos (panel left))))
+
+pub needle-within : NeedleWithin
+needle-within left right = difference-within (panel left) (panel right) (panel-near left) (panel-near right) (omega arith)
+
+-- ---- the ranges that other rooms use
+module _ {σ : ℕ} {τ : ℤ} {π : ℕ} (g : OnGrid σ τ π) where
+  pub shown-range : (900_000 < shownAt σ τ π) × (shownAt σ τ π ≤ 1_100_000)
+  unfolding shownAt shownOf
+  shown-range = (numbers-lie g .shown-low, numbers-lie g .shown-high)
+
+  pub modulus-range : modulusAt σ τ π ≤ 4_000_000
+  unfolding modulusAt
+  modulus-range = numbers-lie g .hundredths-high
+
+  -- the formula's density is a fraction: its lower number is above 0, and so K is above P
+  pub formula-fraction : (x : Frac) → Rooted σ x → 0 < (densityF σ x τ π) .den
+  formula-fraction x v = shown-at-near g x v .above

@@ -1,0 +1,1 @@
+// Demand 3: what the panel promises about its densities and its needle, as laws.

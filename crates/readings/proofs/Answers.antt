@@ -1,0 +1,63 @@
+-- A reading that is taken is on the grid, and one that is refused is refused for a listed reason: by following the checks in
+-- their order, and since a float inside its range has its grid number inside. Assumes nothing.
+use mathlib.Core.Path.{_≡_, refl, sym, subst}
+use mathlib.Core.Bool.{Bool, true, false, cond}
+use lib.Dec.{T}
+use lib.Signed.{_≤ℤ_}
+use lib.Ieee.{Float}
+use Rattle.refusals.specs.declared.Refusal.{Refusal}
+use Rattle.readings.specs.Grid.{Range, inside, gridNo, placeOf}
+use Rattle.readings.specs.Check.{salinities, temperatures, pressures, deepOf, surfaceOf, givenOf, allFinite, firstOutside, placedOf, inOrder, checkedOf}
+use Rattle.readings.specs.Answers.{OnGrid, Usable, Reason, missing, not-finite, salinity, temperature, pressure, Answered, taken, refused}
+use Rattle.readings.specs.declared.Report.{Report}
+use Rattle.readings.specs.declared.Reading.{Reading}
+use Rattle.readings.specs.declared.Point.{Point}
+use Rattle.readings.specs.declared.Place.{Place}
+use Rattle.readings.specs.declared.Given.{Given}
+use Rattle.readings.specs.declared.Finite.{Finite}
+use Rattle.readings.specs.declared.Checked.{Checked}
+use Rattle.readings.proofs.Within.{grid-within}
+
+within : (q : Range) (x : Float) → inside q x ≡ true → (q .low ≤ℤ gridNo (q .steps) x) × (gridNo (q .steps) x ≤ℤ q .high)
+within q x e = grid-within q x (subst T (sym e) tt)
+
+abbrev placed : Bool → Range → Float → Place
+placed b q x = cond b (Place.At (gridNo (q .steps) x)) Place.Outside
+
+by-places : (report : Report) (r : Reading) → Usable report r → (a b c : Bool) → inside salinities (r .salinity) ≡ a
+    → inside temperatures (r .temperature) ≡ b → inside pressures (r .pressure) ≡ c
+    → Answered report (firstOutside (placed a salinities (r .salinity)) (placed b temperatures (r .temperature)) (placed c pressures (r .pressure)))
+by-places report r w false b c s t p = refused (salinity r w s)
+by-places report r w true false c s t p = refused (temperature r w s t)
+by-places report r w true true false s t p = refused (pressure r w s t p)
+by-places report r w true true true s t p =
+    let σ = within salinities (r .salinity) s in
+    let τ = within temperatures (r .temperature) t in
+    let π = within pressures (r .pressure) p in
+    taken (record { sigma-low = σ .0; sigma-high = σ .1; tau-low = τ .0; tau-high = τ .1; pi-low = π .0; pi-high = π .1 })
+
+with-reading : (report : Report) (r : Reading) → givenOf report ≡ Given.Reading r → (f : Finite) → allFinite report ≡ f
+    → Answered report (inOrder (Given.Reading r) f)
+unfolding placedOf placeOf
+with-reading report r g Finite.No e = refused (not-finite r g e)
+with-reading report r g Finite.Yes e =
+    by-places report r (record { given = g; finite = e }) (inside salinities (r .salinity)) (inside temperatures (r .temperature))
+    (inside pressures (r .pressure)) refl refl refl
+
+pub answered : (report : Report) → Answered report (checkedOf report)
+unfolding checkedOf
+answered (Report.Deep s t p) = with-reading (Report.Deep s t p) (deepOf s t p) refl (allFinite (Report.Deep s t p)) refl
+answered (Report.Surface s t) = with-reading (Report.Surface s t) (surfaceOf s t) refl (allFinite (Report.Surface s t)) refl
+answered Report.Missing = refused missing
+
+pub taken-on-grid : (report : Report) (p : Point) → checkedOf report ≡ Checked.Taken p → OnGrid p
+taken-on-grid report p e = go (subst (Answered report) e (answered report))
+  where
+    go : Answered report (Checked.Taken p) → OnGrid p
+    go (taken g) = g
+
+pub refused-only : (report : Report) (x : Refusal) → checkedOf report ≡ Checked.Refused x → Reason report x
+refused-only report x e = go (subst (Answered report) e (answered report))
+  where
+    go : Answered report (Checked.Refused x) → Reason report x
+    go (refused r) = r

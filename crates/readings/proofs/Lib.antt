@@ -1,0 +1,9 @@
+mod Signs
+mod Halves
+mod Exactly
+mod Rounded
+mod Inside
+pub mod Within
+pub mod Answers
+pub mod Quotient
+pub mod Samples

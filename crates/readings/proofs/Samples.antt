@@ -1,0 +1,60 @@
+-- Document 01's worked readings and the limits from both sides: one list, one theorem, by computation. Assumes nothing.
+use mathlib.Core.Path.{_≡_, refl}
+use mathlib.Core.List.{List, [], _∷_, map}
+use Prim.Native.Nat.{ℕ}
+use lib.IntN.{ℤ, pos}
+use lib.Ieee.{binary32, ofBits}
+use Rattle.whole.specs.Arith.{neg}
+use Rattle.refusals.specs.declared.Refusal.{Refusal}
+use Rattle.readings.specs.Grid.{inside, gridNo, placeOf}
+use Rattle.readings.specs.Check.{placedOf, checkedOf}
+use Rattle.readings.specs.declared.Report.{Report}
+use Rattle.readings.specs.declared.Checked.{Checked}
+
+pub record Sample : Type 0 where
+  pub report : Report
+  pub answer : Checked
+
+-- salinity, temperature and pressure as bit patterns
+abbrev deep : ℕ → ℕ → ℕ → Checked → Sample
+deep s t p c = record { report = Report.Deep (ofBits binary32 s) (ofBits binary32 t) (ofBits binary32 p); answer = c }
+
+abbrev surface : ℕ → ℕ → Checked → Sample
+surface s t c = record { report = Report.Surface (ofBits binary32 s) (ofBits binary32 t); answer = c }
+
+abbrev point : ℤ → ℤ → ℤ → Checked
+point σ τ π = Checked.Taken (record { sigma = σ; tau = τ; pi = π })
+
+abbrev no : Refusal → Checked
+no = Checked.Refused
+
+unfoldable pub samples : List Sample
+samples =
+    -- 0.0625 °C and -0.0625 °C
+    surface 0x420c_0000 0x3d80_0000 (point (pos 35_000) (pos 63) (pos 0))
+    ∷ surface 0x420c_0000 0xbd80_0000 (point (pos 35_000) (neg 62) (pos 0))
+    -- the least float above 0, and minus zero
+    ∷ deep 0x0000_0001 0x0000_0001 0x0000_0001 (point (pos 0) (pos 0) (pos 0))
+    ∷ deep 0x8000_0000 0x8000_0000 0x8000_0000 (point (pos 0) (pos 0) (pos 0))
+    -- the ends
+    ∷ deep 0x4228_0000 0x4220_0000 0x447a_0000 (point (pos 42_000) (pos 40_000) (pos 100_000))
+    ∷ deep 0x0000_0000 0xc000_0000 0x0000_0000 (point (pos 0) (neg 2_000) (pos 0))
+    -- the next floats past them, and 42.0001
+    ∷ deep 0x4228_0001 0x4220_0000 0x447a_0000 (no Refusal.Salinity)
+    ∷ deep 0x4228_001a 0x4220_0000 0x447a_0000 (no Refusal.Salinity)
+    ∷ deep 0x8000_0001 0xc000_0000 0x0000_0000 (no Refusal.Salinity)
+    ∷ deep 0x4228_0000 0x4220_0001 0x447a_0000 (no Refusal.Temperature)
+    ∷ deep 0x0000_0000 0xc000_0001 0x0000_0000 (no Refusal.Temperature)
+    ∷ deep 0x4228_0000 0x4220_0000 0x447a_0001 (no Refusal.Pressure)
+    ∷ deep 0x0000_0000 0xc000_0000 0x8000_0001 (no Refusal.Pressure)
+    -- a salinity of 43 beside a NaN, an infinity, and a temperature and a pressure that are outside too
+    ∷ surface 0x422c_0000 0x7fc0_0000 (no Refusal.NotFinite)
+    ∷ deep 0x422c_0000 0x4220_0000 0xff80_0000 (no Refusal.NotFinite)
+    ∷ deep 0x422c_0000 0x4220_0001 0x447a_0001 (no Refusal.Salinity)
+    ∷ deep 0x4228_0000 0x4220_0001 0x447a_0001 (no Refusal.Temperature)
+    ∷ record { report = Report.Missing; answer = no Refusal.Missing }
+    ∷ []
+
+pub samples-hold : map (λ (s : Sample). checkedOf (s .report)) samples ≡ map (λ (s : Sample). s .answer) samples
+unfolding samples checkedOf placedOf placeOf inside gridNo ofBits
+samples-hold = refl

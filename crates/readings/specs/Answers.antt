@@ -1,0 +1,44 @@
+-- What an answer says of its report, for the laws: a point on document 01's grid, or the refusal's reason.
+use mathlib.Core.Path.{_≡_}
+use mathlib.Core.Bool.{true, false}
+use lib.IntN.{pos}
+use lib.Signed.{_≤ℤ_}
+use Rattle.whole.specs.Arith.{neg}
+use Rattle.refusals.specs.declared.Refusal.{Refusal}
+use Rattle.readings.specs.Grid.{inside}
+use Rattle.readings.specs.Check.{salinities, temperatures, pressures, givenOf, allFinite}
+use Rattle.readings.specs.declared.Report.{Report}
+use Rattle.readings.specs.declared.Reading.{Reading}
+use Rattle.readings.specs.declared.Point.{Point}
+use Rattle.readings.specs.declared.Given.{Given}
+use Rattle.readings.specs.declared.Finite.{Finite}
+use Rattle.readings.specs.declared.Checked.{Checked}
+
+-- σ, τ and π lie within the table
+pub record OnGrid (p : Point) : Type 0 where
+  pub sigma-low : pos 0 ≤ℤ p .sigma
+  pub sigma-high : p .sigma ≤ℤ pos 42_000
+  pub tau-low : neg 2_000 ≤ℤ p .tau
+  pub tau-high : p .tau ≤ℤ pos 40_000
+  pub pi-low : pos 0 ≤ℤ p .pi
+  pub pi-high : p .pi ≤ℤ pos 100_000
+
+-- the report has the reading r, and its floats are finite
+pub record Usable (report : Report) (r : Reading) : Type 0 where
+  pub given : givenOf report ≡ Given.Reading r
+  pub finite : allFinite report ≡ Finite.Yes
+
+-- each refusal's reason: its own check fails, and the checks before it do not
+pub data Reason : Report → Refusal → Type 0 where
+  missing : Reason Report.Missing Refusal.Missing
+  not-finite : {report : Report} (r : Reading) → givenOf report ≡ Given.Reading r → allFinite report ≡ Finite.No → Reason report Refusal.NotFinite
+  salinity : {report : Report} (r : Reading) → Usable report r → inside salinities (r .salinity) ≡ false → Reason report Refusal.Salinity
+  temperature : {report : Report} (r : Reading) → Usable report r → inside salinities (r .salinity) ≡ true
+      → inside temperatures (r .temperature) ≡ false → Reason report Refusal.Temperature
+  pressure : {report : Report} (r : Reading) → Usable report r → inside salinities (r .salinity) ≡ true
+      → inside temperatures (r .temperature) ≡ true → inside pressures (r .pressure) ≡ false → Reason report Refusal.Pressure
+
+-- every answer is one of these two
+pub data Answered (report : Report) : Checked → Type 0 where
+  taken : {p : Point} → OnGrid p → Answered report (Checked.Taken p)
+  refused : {x : Refusal} → Reason report x → Answered report (Checked.Refused x)

@@ -1,0 +1,54 @@
+-- Document 01, "A reading": a float's exact value as a fraction, the range test on it, and its grid number.
+use Prim.Native.Nat.{ℕ, _*_}
+use mathlib.Core.Bool.{Bool, true, false, cond, _&&_}
+use lib.IntN.{ℤ, pos, negℤ, _+ℤ_, _*ℤ_}
+use lib.Signed.{leZ}
+use lib.Ieee.{Float, nan, inf, fin, up, down}
+use Rattle.whole.specs.Arith.{floorDiv}
+use Rattle.readings.specs.declared.Place.{Place}
+
+-- neither a NaN nor an infinity
+abbrev pub finite : Float → Bool
+finite nan = false
+finite (inf s) = false
+finite (fin s m e) = true
+
+-- n, or -n where the sign is set
+abbrev pub signed : Bool → ℕ → ℤ
+signed false n = pos n
+signed true n = negℤ (pos n)
+
+-- a finite float's exact value is the fraction numer / denom; minus zero's numer is 0
+abbrev pub numer : Float → ℤ
+numer nan = pos 0
+numer (inf s) = pos 0
+numer (fin s m e) = signed s (m * up e)
+
+abbrev pub denom : Float → ℕ
+denom nan = 1
+denom (inf s) = 1
+denom (fin s m e) = down e
+
+-- a row of document 01's table: the ends as grid numbers, and the grid's steps to 1
+pub record Range : Type 0 where
+  pub low : ℤ
+  pub high : ℤ
+  pub steps : ℕ
+
+abbrev pub range : ℤ → ℤ → ℕ → Range
+range lo hi k = record { low = lo; high = hi; steps = k }
+
+-- the exact value, in steps, is from the low end to the high end, ends included
+unfoldable pub inside : Range → Float → Bool
+inside r x =
+    finite x
+    && (leZ (r .low *ℤ pos (denom x)) (numer x *ℤ pos (r .steps))
+    && leZ (numer x *ℤ pos (r .steps)) (r .high *ℤ pos (denom x)))
+
+-- the exact value times k plus one half, rounded down
+unfoldable pub gridNo : ℕ → Float → ℤ
+gridNo k x = floorDiv (numer x *ℤ pos (2 * k) +ℤ pos (denom x)) (2 * denom x)
+
+-- the range test comes before the rounding
+unfoldable pub placeOf : Range → Float → Place
+placeOf r x = cond (inside r x) (Place.At (gridNo (r .steps) x)) Place.Outside

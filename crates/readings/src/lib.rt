@@ -1,0 +1,185 @@
+// From a probe's report to the grid numbers of its reading, or to the first refusal that applies; the float for the
+// recorder; a float from its four bytes.
+ghost use mathlib.Core.Path.{_≡_};
+ghost use Rattle.readings.specs.Check.{surfaceOf, finiteOf, givenOf, placedOf, checkedOf};
+ghost use Rattle.readings.specs.Recorder.{recorderOf};
+ghost use Rattle.readings.specs.Bytes.{floatOf};
+use refusals::Refusal;
+
+mod grid;
+
+// A probe's report: salinity, temperature, pressure.
+pub enum Report {
+    Deep(f32, f32, f32),
+    Surface(f32, f32),
+    Missing,
+}
+
+// Practical salinity, temperature in °C, pressure in bar above the atmosphere.
+pub struct Reading {
+    pub salinity: f32,
+    pub temperature: f32,
+    pub pressure: f32,
+}
+
+// The grid numbers σ, τ, π.
+pub struct Point {
+    pub sigma: i64,
+    pub tau: i64,
+    pub pi: i64,
+}
+
+pub enum Checked {
+    Taken(Point),
+    Refused(Refusal),
+}
+
+// The answer of check 1.
+pub enum Given {
+    Reading(Reading),
+    Nothing,
+}
+
+// The answer of check 2.
+pub enum Finite {
+    Yes,
+    No,
+}
+
+// The answer of a range check: where a float stands on its grid.
+pub enum Place {
+    At(i64),
+    Outside,
+}
+
+impl Report {
+    pub fn reading(self) -> Given
+        ensures { λ r. ⌜ r ≡ givenOf self ⌝ }
+    {
+        match self {
+            Report::Deep(salinity, temperature, pressure) => Given::Reading(Reading {
+                salinity,
+                temperature,
+                pressure,
+            }),
+            Report::Surface(salinity, temperature) => {
+                let reading = Reading::surface(salinity, temperature);
+                Given::Reading(reading)
+            }
+            Report::Missing => Given::Nothing,
+        }
+    }
+}
+
+impl Reading {
+    // The ends of each range as grid numbers, and the grid's steps to 1.
+    pub const SALINITY_LOW: i32 = 0;
+
+    pub const SALINITY_HIGH: i32 = 42_000;
+
+    pub const SALINITY_STEPS: u32 = 1000;
+
+    pub const TEMPERATURE_LOW: i32 = -2_000;
+
+    pub const TEMPERATURE_HIGH: i32 = 40_000;
+
+    pub const TEMPERATURE_STEPS: u32 = 1000;
+
+    pub const PRESSURE_LOW: i32 = 0;
+
+    pub const PRESSURE_HIGH: i32 = 100_000;
+
+    pub const PRESSURE_STEPS: u32 = 100;
+
+    // At the surface the pressure is taken as 0.
+    pub fn surface(salinity: f32, temperature: f32) -> Reading
+        ensures { λ r. ⌜ r ≡ surfaceOf salinity temperature ⌝ }
+    {
+        Reading {
+            salinity,
+            temperature,
+            pressure: 0.0,
+        }
+    }
+
+    // Whether none of the three is a NaN or an infinity.
+    pub fn finite(self) -> Finite
+        ensures { λ r. ⌜ r ≡ finiteOf self ⌝ }
+    {
+        if grid::is_finite(self.salinity)
+            && grid::is_finite(self.temperature)
+            && grid::is_finite(self.pressure)
+        {
+            Finite::Yes
+        } else {
+            Finite::No
+        }
+    }
+
+    // Checks 3, 4 and 5.
+    fn placed(self) -> Checked
+        ensures { λ r. ⌜ r ≡ placedOf self ⌝ }
+    {
+        let Place::At(sigma) = grid::place(
+            self.salinity,
+            Reading::SALINITY_LOW,
+            Reading::SALINITY_HIGH,
+            Reading::SALINITY_STEPS,
+        ) else {
+            return Checked::Refused(Refusal::Salinity);
+        };
+        let Place::At(tau) = grid::place(
+            self.temperature,
+            Reading::TEMPERATURE_LOW,
+            Reading::TEMPERATURE_HIGH,
+            Reading::TEMPERATURE_STEPS,
+        ) else {
+            return Checked::Refused(Refusal::Temperature);
+        };
+        let Place::At(pi) = grid::place(
+            self.pressure,
+            Reading::PRESSURE_LOW,
+            Reading::PRESSURE_HIGH,
+            Reading::PRESSURE_STEPS,
+        ) else {
+            return Checked::Refused(Refusal::Pressure);
+        };
+        Checked::Taken(Point { sigma, tau, pi })
+    }
+}
+
+// Checks 1 to 5 in document 01's order: the first that applies is the answer.
+pub fn check(report: Report) -> Checked
+    ensures { λ r. ⌜ r ≡ checkedOf report ⌝ }
+{
+    let Given::Reading(reading) = report.reading() else {
+        return Checked::Refused(Refusal::Missing);
+    };
+    let Finite::Yes = reading.finite() else {
+        return Checked::Refused(Refusal::NotFinite);
+    };
+    reading.placed()
+}
+
+// The float for the recorder: the cast is exact, and the float stands for the shown number alone. No density reaches 16,384,000.
+pub fn recorder(shown: u32) -> f32
+    ensures { λ r. ⌜ r ≡ recorderOf shown ⌝ }
+{
+    if shown < 16_384_000 {
+        shown as f32 / 1000.0
+    } else {
+        0.0
+    }
+}
+
+// The float whose bit pattern stands in four bytes, the lowest first. Every NaN's pattern gives the one NaN.
+pub fn float_of(a: u8, b: u8, c: u8, d: u8) -> f32
+    ensures { λ r. ⌜ r ≡ floatOf a b c d ⌝ }
+{
+    let n = (a as u32) + 256 * ((b as u32) + 256 * ((c as u32) + 256 * (d as u32)));
+    if 0x7f80_0000 < n % 0x8000_0000 {
+        0.0 / 0.0
+    } else {
+        f32::from_bits(n)
+    }
+}

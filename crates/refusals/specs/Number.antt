@@ -1,0 +1,24 @@
+-- Document 01, "Refusal numbers and their order": the number of each refusal.
+use Prim.Native.Nat.{ℕ}
+use Rattle.refusals.specs.declared.Refusal.{Refusal}
+use Rattle.refusals.specs.declared.Refusal.the-variants.{Missing, NotFinite, Salinity, Temperature, Pressure, Cut, Kind, Length, Room, PairNumber}
+
+abbrev pub numberOf : Refusal → ℕ
+-- the reading is missing
+numberOf Missing = 1
+-- any of its floats is a NaN or an infinity
+numberOf NotFinite = 2
+-- salinity, temperature, pressure outside its range
+numberOf Salinity = 3
+numberOf Temperature = 4
+numberOf Pressure = 5
+-- fewer than 4 bytes remain for a record's head, or fewer than its stated length for its body
+numberOf Cut = 6
+-- the record's kind is none of 1, 2, 3
+numberOf Kind = 7
+-- the record's length is not the kind's own
+numberOf Length = 8
+-- the lent buffer has under 32 bytes
+numberOf Room = 30
+-- the pair number is 0 or exceeds 9,999
+numberOf PairNumber = 31

@@ -1,0 +1,129 @@
+-- What an answer says of its grid numbers: a water is known exactly if all three lie in their ranges, and then it is the recipe's;
+-- a refusal's number tells which of them does not. Assumes nothing.
+use Prim.Native.Nat.{ℕ, _≤_, _<_}
+use mathlib.Core.Path.{_≡_, refl, sym, _∙_, subst}
+use mathlib.Core.Bool.{Bool, true, false, cond}
+use native.Mathlib.Omega.{arith}
+use lib.Dec.{T}
+use lib.IntN.{ℤ, pos}
+use lib.Signed.{leZ}
+use Rattle.whole.specs.Arith.{neg, plus}
+use Rattle.refusals.specs.declared.Refusal.{Refusal}
+use Rattle.refusals.specs.declared.Refusal.the-variants.{Salinity, Temperature, Pressure}
+use Rattle.sea.specs.declared.Water.{Water}
+use Rattle.sea.specs.declared.Water.the-variants.{Known, Refused}
+use Rattle.sea.specs.declared.Range.{Range}
+use Rattle.sea.specs.declared.Range.the-variants.{Inside, Outside}
+use Rattle.sea.specs.Recipe.{bulk, bulkOf, shownOf, shownAt, modulusAt, parcelOf, parcelAt}
+use Rattle.sea.specs.Sizes.{Lies, Ranges}
+use Rattle.sea.specs.Water.{rangeOf, unless, waterOf}
+use Rattle.sea.proofs.Grid.{natural, inside-lies, parcel-ranges}
+
+-- the grid table
+pub record OnTable (σ τ π : ℤ) : Type 0 where
+  pub salinity : Lies (pos 0) (pos 42_000) σ
+  pub temperature : Lies (neg 2_000) (pos 40_000) τ
+  pub pressure : Lies (pos 0) (pos 100_000) π
+
+-- ---- in range means Inside
+yes : (a b : Bool) → T a → T b → cond a (cond b Inside Outside) Outside ≡ Inside
+yes true true p q = refl
+yes true false p q = absurd q
+yes false b p q = absurd p
+
+pub lies-inside : (lo hi z : ℤ) → Lies lo hi z → rangeOf lo hi z ≡ Inside
+unfolding rangeOf
+lies-inside lo hi z l = yes (leZ lo z) (leZ z hi) (l .low .le) (l .high .le)
+
+-- a water on the table is known
+pub known-on-table : (σ τ π : ℤ) → OnTable σ τ π → waterOf σ τ π ≡ Known (shownAt (plus σ) τ (plus π)) (modulusAt (plus σ) τ (plus π))
+unfolding waterOf
+known-on-table σ τ π t =
+    rw (lies-inside (pos 0) (pos 42_000) σ (t .salinity), lies-inside (neg 2_000) (pos 40_000) τ (t .temperature), lies-inside (pos 0) (pos 100_000) π (t .pressure))
+
+-- ---- a known water is on the table
+apart : {r : Refusal} {d k : ℕ} → Refused r ≡ Known d k → ⊥
+apart e = let z : _≡_ {A = ℕ} 0 1 = cc in omega arith
+
+passed : (a b c : Range) (w : Water) {d k : ℕ} → unless a Salinity (unless b Temperature (unless c Pressure w)) ≡ Known d k → (a ≡ Inside) × ((b ≡ Inside) × (c ≡ Inside))
+passed Inside Inside Inside w e = (refl, (refl, refl))
+passed Inside Inside Outside w e = absurd (apart e)
+passed Inside Outside c w e = absurd (apart e)
+passed Outside b c w e = absurd (apart e)
+
+pub known-is-on-table : (σ τ π : ℤ) {d k : ℕ} → waterOf σ τ π ≡ Known d k → OnTable σ τ π
+unfolding waterOf
+known-is-on-table σ τ π e =
+    let p = passed (rangeOf (pos 0) (pos 42_000) σ) (rangeOf (neg 2_000) (pos 40_000) τ) (rangeOf (pos 0) (pos 100_000) π) (Known (shownAt (plus σ) τ (plus π)) (modulusAt (plus σ) τ (plus π))) e in
+    record {
+      salinity = inside-lies (pos 0) (pos 42_000) σ (p .0);
+      temperature = inside-lies (neg 2_000) (pos 40_000) τ (p .1 .0);
+      pressure = inside-lies (pos 0) (pos 100_000) π (p .1 .1);
+    }
+
+-- ---- what is shown of it is small
+pub record Shown (σ τ π : ℤ) (d k : ℕ) : Type 0 where
+  pub density-is : d ≡ shownAt (plus σ) τ (plus π)
+  pub bulk-is : k ≡ modulusAt (plus σ) τ (plus π)
+  pub density-low : 900_000 < d
+  pub density-high : d ≤ 1_100_000
+  pub bulk-low : plus π < k
+  pub bulk-high : k ≤ 4_000_000
+
+ranges-at : (σ τ π : ℤ) → OnTable σ τ π → (900_000 < shownAt (plus σ) τ (plus π)) × ((shownAt (plus σ) τ (plus π) ≤ 1_100_000) × ((plus π < modulusAt (plus σ) τ (plus π)) × (modulusAt (plus σ) τ (plus π) ≤ 4_000_000)))
+unfolding shownAt shownOf modulusAt bulkOf parcelAt parcelOf
+ranges-at σ τ π t =
+    let r = parcel-ranges (plus σ) τ π (natural (t .salinity) .most) (t .temperature) (t .pressure) in
+    (r .shown-low, (r .shown-high, (r .hundredths-low, r .hundredths-high)))
+
+same-density : {d k d′ k′ : ℕ} → Known d k ≡ Known d′ k′ → d ≡ d′
+same-density e = cc
+
+same-bulk : {d k d′ k′ : ℕ} → Known d k ≡ Known d′ k′ → k ≡ k′
+same-bulk e = cc
+
+pub known-shows : (σ τ π : ℤ) {d k : ℕ} → waterOf σ τ π ≡ Known d k → Shown σ τ π d k
+known-shows σ τ π {d} {k} e =
+    let t = known-is-on-table σ τ π e in
+    let q : Known d k ≡ Known (shownAt (plus σ) τ (plus π)) (modulusAt (plus σ) τ (plus π)) = sym e ∙ known-on-table σ τ π t in
+    let r = ranges-at σ τ π t in
+    let a = same-density q in
+    let b = same-bulk q in
+    record {
+      density-is = a;
+      bulk-is = b;
+      density-low = omega (arith, a, r .0);
+      density-high = omega (arith, a, r .1 .0);
+      bulk-low = omega (arith, b, r .1 .1 .0);
+      bulk-high = omega (arith, b, r .1 .1 .1);
+    }
+
+-- ---- a refusal is for its reason alone: the first number outside its range
+pub data Reason (σ τ π : ℤ) : Refusal → Type 0 where
+  salinity : ¬ (Lies (pos 0) (pos 42_000) σ) → Reason σ τ π Salinity
+  temperature : Lies (pos 0) (pos 42_000) σ → ¬ (Lies (neg 2_000) (pos 40_000) τ) → Reason σ τ π Temperature
+  pressure : Lies (pos 0) (pos 42_000) σ → Lies (neg 2_000) (pos 40_000) τ → ¬ (Lies (pos 0) (pos 100_000) π) → Reason σ τ π Pressure
+
+sides : Inside ≡ Outside → ⊥
+sides e = let z : _≡_ {A = ℕ} 0 1 = cc in omega arith
+
+outside-not : (lo hi z : ℤ) → rangeOf lo hi z ≡ Outside → ¬ (Lies lo hi z)
+outside-not lo hi z e l = sides (sym (lies-inside lo hi z l) ∙ e)
+
+same-refusal : {r s : Refusal} → Refused r ≡ Refused s → r ≡ s
+same-refusal e = cc
+
+unknown : {d k : ℕ} {r : Refusal} → Known d k ≡ Refused r → ⊥
+unknown e = let z : _≡_ {A = ℕ} 0 1 = cc in omega arith
+
+pub refused-only : (σ τ π : ℤ) (r : Refusal) → waterOf σ τ π ≡ Refused r → Reason σ τ π r
+unfolding waterOf
+refused-only σ τ π r e = go (rangeOf (pos 0) (pos 42_000) σ) (rangeOf (neg 2_000) (pos 40_000) τ) (rangeOf (pos 0) (pos 100_000) π) refl refl refl e
+  where
+    go : (a b c : Range) → rangeOf (pos 0) (pos 42_000) σ ≡ a → rangeOf (neg 2_000) (pos 40_000) τ ≡ b → rangeOf (pos 0) (pos 100_000) π ≡ c →
+        unless a Salinity (unless b Temperature (unless c Pressure (Known (shownAt (plus σ) τ (plus π)) (modulusAt (plus σ) τ (plus π))))) ≡ Refused r → Reason σ τ π r
+    go Outside b c p q s e = subst (Reason σ τ π) (same-refusal e) (salinity (outside-not (pos 0) (pos 42_000) σ p))
+    go Inside Outside c p q s e = subst (Reason σ τ π) (same-refusal e) (temperature (inside-lies (pos 0) (pos 42_000) σ p) (outside-not (neg 2_000) (pos 40_000) τ q))
+    go Inside Inside Outside p q s e =
+        subst (Reason σ τ π) (same-refusal e) (pressure (inside-lies (pos 0) (pos 42_000) σ p) (inside-lies (neg 2_000) (pos 40_000) τ q) (outside-not (pos 0) (pos 100_000) π s))
+    go Inside Inside Inside p q s e = absurd (unknown e)

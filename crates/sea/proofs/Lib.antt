@@ -1,0 +1,4 @@
+pub mod Points
+pub mod Sizes
+pub mod Grid
+pub mod Answers

@@ -1,0 +1,4 @@
+pub mod Table
+pub mod Recipe
+pub mod Water
+pub mod Sizes

@@ -1,0 +1,246 @@
+// Density and bulk modulus of sea water from grid numbers.
+ghost use mathlib.Core.Path.{_≡_};
+ghost use lib.IntN.{pos, _+ℤ_};
+ghost use Rattle.whole.specs.Arith.{neg, plus, scaled};
+ghost use Rattle.sea.specs.declared.Water.the-variants.{Known};
+ghost use Rattle.sea.specs.Recipe as the;
+ghost use Rattle.sea.specs.Sizes.{Lies, Sizes, Salty, Stiff, Ranges};
+ghost use Rattle.sea.specs.Water.{rangeOf, waterOf, numberIn, densityIn, bulkIn};
+use refusals::Refusal;
+
+// The answer for grid numbers: the shown density in 0.001 kg/m3 and the bulk modulus in 0.01 bar, or why not.
+pub enum Water {
+    Known { density: u32, bulk: u32 },
+    Refused(Refusal),
+}
+
+// The paper's number and values for each case: a refused water has noughts.
+impl Water {
+    pub fn number(self) -> u32
+        ensures { λ r. ⌜ r ≡ numberIn self ⌝ }
+    {
+        match self {
+            Water::Known {
+                density: _,
+                bulk: _,
+            } => 0,
+            Water::Refused(why) => why.number(),
+        }
+    }
+
+    pub fn density(self) -> u32
+        ensures { λ r. ⌜ r ≡ densityIn self ⌝ }
+    {
+        match self {
+            Water::Known { density, bulk: _ } => density,
+            Water::Refused(_) => 0,
+        }
+    }
+
+    pub fn bulk(self) -> u32
+        ensures { λ r. ⌜ r ≡ bulkIn self ⌝ }
+    {
+        match self {
+            Water::Known { density: _, bulk } => bulk,
+            Water::Refused(_) => 0,
+        }
+    }
+}
+
+// The answer of a range check.
+pub enum Range {
+    Inside,
+    Outside,
+}
+
+// The values of the twelve rows at one temperature, in units of 10^-9.
+pub struct Rows {
+    pub Dw: i64,
+    pub Ds: i64,
+    pub Dr: i64,
+    pub Dss: i64,
+    pub Kw: i64,
+    pub Ks: i64,
+    pub Kr: i64,
+    pub Aw: i64,
+    pub As: i64,
+    pub Ar: i64,
+    pub Bw: i64,
+    pub Bs: i64,
+}
+
+// What salinity and temperature alone decide; a pressure is put to it afterwards.
+pub struct Parcel {
+    pub d: i64,
+    pub k0: i64,
+    pub a: i64,
+    pub b: i64,
+}
+
+// Coefficients in units of 10^-9, lowest power first, noughts past a row's end.
+const ROWS: [[i64; 6]; 12] = [
+    [
+        999842594000,
+        6793952000,
+        -90952900000,
+        100168500000,
+        -112008300000,
+        65363320000,
+    ],
+    [
+        82449300000,
+        -40899000000,
+        76438000000,
+        -82467000000,
+        53875000000,
+        0,
+    ],
+    [-5724660000, 10227000000, -16546000000, 0, 0, 0],
+    [4831400000, 0, 0, 0, 0, 0],
+    [
+        19652210000000,
+        14842060000000,
+        -23271050000000,
+        13604770000000,
+        -5155288000000,
+        0,
+    ],
+    [
+        5467460000000,
+        -6034590000000,
+        10998700000000,
+        -6167000000000,
+        0,
+        0,
+    ],
+    [79440000000, 1648300000000, -5300900000000, 0, 0, 0],
+    [
+        3239908000000,
+        143713000000,
+        1160920000000,
+        -577905000000,
+        0,
+        0,
+    ],
+    [228380000000, -109810000000, -1607800000000, 0, 0, 0],
+    [191075000000, 0, 0, 0, 0, 0],
+    [85093500000, -612293000000, 527870000000, 0, 0, 0],
+    [-99348000000, 208160000000, 916970000000, 0, 0, 0],
+];
+
+// Each row is picked by a constant, so that nothing of the table is left to look up in the compiled code.
+fn rows_at(tau: i64) -> Rows
+    requires { ⌜ Lies (neg 2_000) (pos 40_000) tau ⌝ }
+    ensures { λ r. ⌜ r ≡ the.rowsAt tau ⌝ }
+{
+    Rows {
+        Dw: whole::row_value(ROWS[0], tau),
+        Ds: whole::row_value(ROWS[1], tau),
+        Dr: whole::row_value(ROWS[2], tau),
+        Dss: whole::row_value(ROWS[3], tau),
+        Kw: whole::row_value(ROWS[4], tau),
+        Ks: whole::row_value(ROWS[5], tau),
+        Kr: whole::row_value(ROWS[6], tau),
+        Aw: whole::row_value(ROWS[7], tau),
+        As: whole::row_value(ROWS[8], tau),
+        Ar: whole::row_value(ROWS[9], tau),
+        Bw: whole::row_value(ROWS[10], tau),
+        Bs: whole::row_value(ROWS[11], tau),
+    }
+}
+
+// The surface density D.
+fn surface(r: Rows, sigma: i64, w: i64) -> i64
+    requires { ⌜ Sizes r ⌝ ∗ ⌜ Lies (pos 0) (pos 42_000) sigma ⌝ ∗ ⌜ Lies (pos 0) (pos 64_807) w ⌝ }
+    ensures { λ d. ⌜ d ≡ the.surface r (plus sigma) (plus w) ⌝ }
+{
+    let rooted = whole::step(r.Ds, r.Dr, w);
+    whole::step(r.Dw, whole::step(rooted, r.Dss, sigma), sigma)
+}
+
+// x plus the scaled product by sigma of y plus the scaled product by w of z: the shape of K0 and of A.
+fn salted(x: i64, y: i64, z: i64, sigma: i64, w: i64) -> i64
+    requires { ⌜ Salty x y z sigma w ⌝ }
+    ensures { λ r. ⌜ r ≡ x +ℤ scaled (y +ℤ scaled z w) sigma ⌝ }
+{
+    whole::step(x, whole::step(y, z, w), sigma)
+}
+
+// What the row values and the root make at one salinity.
+fn combined(r: Rows, sigma: i64, w: i64) -> Parcel
+    requires { ⌜ Sizes r ⌝ ∗ ⌜ Lies (pos 0) (pos 42_000) sigma ⌝ ∗ ⌜ Lies (pos 0) (pos 64_807) w ⌝ }
+    ensures { λ x. ⌜ x ≡ the.parcelOf r (plus sigma) (plus w) ⌝ }
+{
+    let d = surface(r, sigma, w);
+    let k0 = salted(r.Kw, r.Ks, r.Kr, sigma, w);
+    let a = salted(r.Aw, r.As, r.Ar, sigma, w);
+    let b = whole::step(r.Bw, r.Bs, sigma);
+    Parcel { d, k0, a, b }
+}
+
+// The water of one salinity and temperature, before any pressure.
+fn parcel_at(sigma: i64, tau: i64) -> Parcel
+    requires { ⌜ Lies (pos 0) (pos 42_000) sigma ⌝ ∗ ⌜ Lies (neg 2_000) (pos 40_000) tau ⌝ }
+    ensures { λ x. ⌜ x ≡ the.parcelAt (plus sigma) tau ⌝ }
+{
+    let w = whole::root(whole::unsigned(sigma) * 100000);
+    combined(rows_at(tau), sigma, whole::signed(w))
+}
+
+// The bulk modulus K at a pressure.
+fn bulk(x: Parcel, pi: i64) -> i64
+    requires { ⌜ Stiff x pi ⌝ }
+    ensures { λ k. ⌜ k ≡ the.bulk (x .k0) (x .a) (x .b) (plus pi) ⌝ }
+{
+    whole::step(x.k0, whole::step(x.a, x.b, pi), pi)
+}
+
+// The shown density, from D and K in units of 10^-9.
+fn compressed(d: i64, k: i64, pi: i64) -> u32
+    requires { ⌜ Lies (pos 0) (pos 100_000) pi ⌝ ∗ ⌜ Ranges d k (plus pi) ⌝ }
+    ensures { λ r. ⌜ r ≡ the.shown d k (plus pi) ⌝ }
+{
+    let p = 1000 * whole::unsigned(pi);
+    let m = whole::unsigned(d) / 1000;
+    let n = whole::unsigned(k) / 10000 - p;
+    ((m + m * p / n + 500) / 1000) as u32
+}
+
+// Density and bulk modulus of a water at a pressure.
+fn pressed(x: Parcel, pi: i64) -> Water
+    requires { ⌜ Lies (pos 0) (pos 100_000) pi ⌝ ∗ ⌜ Stiff x pi ⌝ ∗ ⌜ Ranges (x .d) (the.bulk (x .k0) (x .a) (x .b) (plus pi)) (plus pi) ⌝ }
+    ensures { λ r. ⌜ r ≡ Known (the.shown (x .d) (the.bulk (x .k0) (x .a) (x .b) (plus pi)) (plus pi)) (the.hundredths (the.bulk (x .k0) (x .a) (x .b) (plus pi))) ⌝ }
+{
+    let k = bulk(x, pi);
+    let density = compressed(x.d, k, pi);
+    let bulk = (whole::unsigned(k) / 10000000) as u32;
+    Water::Known { density, bulk }
+}
+
+// Whether z is from low to high, ends included.
+fn within(z: i64, low: i64, high: i64) -> Range
+    ensures { λ r. ⌜ r ≡ rangeOf low high z ⌝ }
+{
+    if low <= z {
+        if z <= high {
+            return Range::Inside;
+        }
+    }
+    Range::Outside
+}
+
+// Density and bulk modulus at the grid numbers sigma (0.001), tau (0.001 degrees) and pi (0.01 bar).
+pub fn water_at(sigma: i64, tau: i64, pi: i64) -> Water
+    ensures { λ r. ⌜ r ≡ waterOf sigma tau pi ⌝ }
+{
+    let Range::Inside = within(sigma, 0, 42000) else {
+        return Water::Refused(Refusal::Salinity);
+    };
+    let Range::Inside = within(tau, -2000, 40000) else {
+        return Water::Refused(Refusal::Temperature);
+    };
+    let Range::Inside = within(pi, 0, 100000) else {
+        return Water::Refused(Refusal::Pressure);
+    };
+    pressed(parcel_at(sigma, tau), pi)
+}

@@ -1,0 +1,8 @@
+pub mod Ints
+pub mod Words
+mod Offset
+pub mod Row
+pub mod Interval
+pub mod Near
+pub mod Roots
+mod Shifts

@@ -1,0 +1,3 @@
+pub mod Arith
+pub mod Order
+pub mod Fraction

@@ -1,0 +1,44 @@
+//! The second program: it works everything out again and holds the compiled panel to it.
+
+mod grid;
+mod panel;
+mod random;
+mod recipe;
+
+/// What was tried and what came out wrong.
+pub struct Tally {
+    pub name: &'static str,
+    pub tried: u64,
+    pub wrong: u64,
+}
+
+impl Tally {
+    pub fn new(name: &'static str) -> Tally {
+        Tally { name, tried: 0, wrong: 0 }
+    }
+
+    /// Counts one comparison; the first few that fail are shown.
+    pub fn same<T: PartialEq + std::fmt::Debug>(&mut self, panel: T, second: T, input: &dyn std::fmt::Debug) {
+        self.tried += 1;
+        if panel != second {
+            self.wrong += 1;
+            if self.wrong <= 5 {
+                println!("{}: at {:?} the panel says {:?}, the second program {:?}", self.name, input, panel, second);
+            }
+        }
+    }
+}
+
+fn main() {
+    let panel = panel::Panel::new(std::env::args().skip(1).collect());
+    let tallies = grid::all(&panel);
+    let mut wrong = 0;
+    for t in &tallies {
+        println!("second program: {}: {} tried, {} wrong", t.name, t.tried, t.wrong);
+        assert!(t.tried > 0);
+        wrong += t.wrong;
+    }
+    if wrong > 0 {
+        std::process::exit(1);
+    }
+}
