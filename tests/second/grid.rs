@@ -113,12 +113,11 @@ fn anywhere() -> Vec<Reading> {
     (0..2_000_000).map(|_| ENDS.map(|(low, high)| random.between(low, high))).collect()
 }
 
-pub fn all(panel: &Panel) -> Vec<Tally> {
-    let formula = Formula::printed();
+pub fn all(panel: &Panel, formula: &Formula) -> Vec<Tally> {
     vec![
-        published(panel, &formula),
-        compare(panel, &formula, "edges of the grid box", &edges()),
-        compare(panel, &formula, "refusals of grid numbers", &outside()),
-        compare(panel, &formula, "random grid readings", &anywhere()),
+        published(panel, formula),
+        compare(panel, formula, "edges of the grid box", &edges()),
+        compare(panel, formula, "refusals of grid numbers", &outside()),
+        compare(panel, formula, "random grid readings", &anywhere()),
     ]
 }

@@ -1,9 +1,13 @@
 //! The second program: it works everything out again and holds the compiled panel to it.
 
+mod channel;
+mod floats;
 mod grid;
+mod needle;
 mod panel;
 mod random;
 mod recipe;
+mod recorder;
 
 /// What was tried and what came out wrong.
 pub struct Tally {
@@ -31,7 +35,11 @@ impl Tally {
 
 fn main() {
     let panel = panel::Panel::new(std::env::args().skip(1).collect());
-    let tallies = grid::all(&panel);
+    let formula = recipe::Formula::printed();
+    let mut tallies = grid::all(&panel, &formula);
+    tallies.extend(channel::all(&panel, &formula));
+    tallies.extend(needle::all(&panel, &formula));
+    tallies.extend(recorder::all(&panel));
     let mut wrong = 0;
     for t in &tallies {
         println!("second program: {}: {} tried, {} wrong", t.name, t.tried, t.wrong);

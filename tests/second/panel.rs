@@ -55,3 +55,8 @@ impl Panel {
 pub fn word(answer: &[u8], i: usize) -> u32 {
     u32::from_le_bytes(answer[4 * i..4 * i + 4].try_into().unwrap())
 }
+
+/// The i-th signed 64-bit number of an answer.
+pub fn long(answer: &[u8], i: usize) -> i64 {
+    i64::from_le_bytes(answer[8 * i..8 * i + 8].try_into().unwrap())
+}

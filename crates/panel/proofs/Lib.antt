@@ -1,3 +1,4 @@
 pub mod Answers
 pub mod Sizes
 pub mod Needles
+pub mod Samples

@@ -24,7 +24,6 @@ never e = let x : _≡_ {A = ℕ} 0 1 = cc in omega arith
 
 -- swapped: the sign turns
 pub swapped : (l r : Channel) (z : ℤ) → needleOf l r ≡ Needle.Value z → needleOf r l ≡ Needle.Value (negℤ z)
-unfolding needleOf
 swapped (Channel.Accepted p d k) (Channel.Accepted q c j) z e = ap Needle.Value (rw (← taken e) (turned d c))
 swapped (Channel.Accepted p d k) (Channel.Refused s) z e = absurd (never e)
 swapped (Channel.Refused s) r z e = absurd (never e)
@@ -45,7 +44,6 @@ pub record Both (l r : Channel) : Type 0 where
   pub right-is : r ≡ Channel.Accepted right-at right-density right-bulk
 
 pub value-accepted : (l r : Channel) (z : ℤ) → needleOf l r ≡ Needle.Value z → Both l r
-unfolding needleOf
 value-accepted (Channel.Accepted p d k) (Channel.Accepted q c j) z e =
     record { left-at = p; left-density = d; left-bulk = k; left-is = refl; right-at = q; right-density = c; right-bulk = j; right-is = refl }
 value-accepted (Channel.Accepted p d k) (Channel.Refused s) z e = absurd (never e)

@@ -7,7 +7,7 @@ use Rattle.readings.specs.declared.Point.{Point}
 use Rattle.readings.specs.Grid.{gridNo}
 use Rattle.readings.specs.Recorder.{recorderOf}
 use Rattle.readings.proofs.Quotient.{recorder-back}
-use Rattle.sea.proofs.Answers.{Shown, known-shows}
+use Rattle.sea.proofs.Answers.{OnTable, Shown, known-is-on-table, known-shows}
 use Rattle.panel.specs.declared.Entry.{Entry}
 use Rattle.panel.specs.declared.Channel.{Channel}
 use Rattle.panel.specs.Panel.{channelOf, Small}
@@ -18,6 +18,12 @@ accepted-shows e p d k h = go e (subst (Case e) h (case-of e))
   where
     go : (e : Entry) → Case e (Channel.Accepted p d k) → Shown (p .sigma) (p .tau) (p .pi) d k
     go _ (accepted report _ _ _ c w) = known-shows (p .sigma) (p .tau) (p .pi) w
+
+pub accepted-table : (e : Entry) (p : Point) (d k : ℕ) → channelOf e ≡ Channel.Accepted p d k → OnTable (p .sigma) (p .tau) (p .pi)
+accepted-table e p d k h = go e (subst (Case e) h (case-of e))
+  where
+    go : (e : Entry) → Case e (Channel.Accepted p d k) → OnTable (p .sigma) (p .tau) (p .pi)
+    go _ (accepted report _ _ _ c w) = known-is-on-table (p .sigma) (p .tau) (p .pi) w
 
 by-case : {e : Entry} {c : Channel} → Case e c → Small c
 by-case (accepted report p d k c w) = let s = known-shows (p .sigma) (p .tau) (p .pi) w in omega (arith, s .density-high)

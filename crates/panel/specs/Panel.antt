@@ -47,7 +47,7 @@ bulkIn (Channel.Refused r) = 0
 
 -- ---- the needle: shown density of the right, at its own pressure, minus that of the left, at its own; refused exactly if a
 -- channel is, by 100 plus the left's number if the left is refused, otherwise by 200 plus the right's
-unfoldable pub needleOf : Channel → Channel → Needle
+abbrev pub needleOf : Channel → Channel → Needle
 needleOf (Channel.Refused r) c = Needle.Refused (100 + numberOf r)
 needleOf (Channel.Accepted p d k) (Channel.Refused r) = Needle.Refused (200 + numberOf r)
 needleOf (Channel.Accepted p d k) (Channel.Accepted p′ d′ k′) = Needle.Value (pos d′ -ℤ pos d)

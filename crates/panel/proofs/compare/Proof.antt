@@ -72,19 +72,16 @@ sub-t15 c =
     fits-as (difference r l hr hl) (difference-fits r l hr hl)
 
 returns : tie.Need-returns
-unfolding needleOf
 returns c =
     let b = c .before .before .before .before in
     ap (λ (n : ℕ). Needle.Refused (100 + n)) (c .number .ensures) ∙ sym (ap (λ (x : Channel). needleOf x (b .args .right)) (c .before .before .left .given .1))
 
 returns-2 : tie.Need-returns-2
-unfolding needleOf
 returns-2 c =
     let k = c .before .before .before .before in
     ap (λ (n : ℕ). Needle.Refused (200 + n)) (c .number2 .ensures) ∙ sym (ap₂ needleOf (k .before .left2 .given .1) (c .before .before .right .given .1))
 
 returns-3 : tie.Need-returns-3
-unfolding needleOf
 returns-3 c =
     let k = c .before .before .before in
     let r = c .before .right2 .given .0 .1 .0 in

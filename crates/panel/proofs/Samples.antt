@@ -1,0 +1,35 @@
+-- The two waters of document 01's example, as the panel answers them: computed from the floats' bits to the shown density. Assumes nothing.
+use mathlib.Core.Path.{_≡_, refl}
+use lib.IntN.{pos}
+use lib.Ieee.{ofBits}
+use Rattle.whole.specs.Arith.{scaled, rowValue, rootFrom, rootOf}
+use Rattle.sea.specs.Table.{Dw, Ds, Dr, Dss, Kw, Ks, Kr, Aw, As, Ar, Bw, Bs}
+use Rattle.sea.specs.Recipe.{rowsAt, rootAt, surface, K0, A, B, bulk, hundredths, mass, net, gain, density, shown, bulkOf, shownOf, shownAt, modulusAt}
+use Rattle.sea.specs.Water.{rangeOf, waterOf}
+use Rattle.refusals.specs.declared.Refusal.{Refusal}
+use Rattle.readings.specs.Bytes.{floatOf}
+use Rattle.readings.specs.Grid.{inside, gridNo, placeOf}
+use Rattle.readings.specs.Check.{placedOf, checkedOf}
+use Rattle.readings.specs.declared.Report.{Report}
+use Rattle.panel.specs.declared.Entry.{Entry}
+use Rattle.panel.specs.declared.Channel.{Channel}
+use Rattle.panel.specs.Panel.{wateredOf, channelOf}
+
+-- salinity 0 and 35, both at the surface and at 5 °C
+abbrev pub fresh : Entry
+fresh = Entry.Reading (Report.Surface (floatOf 0x00 0x00 0x00 0x00) (floatOf 0x00 0x00 0xA0 0x40))
+
+abbrev pub salt : Entry
+salt = Entry.Reading (Report.Surface (floatOf 0x00 0x00 0x0C 0x42) (floatOf 0x00 0x00 0xA0 0x40))
+
+pub fresh-is : channelOf fresh ≡ Channel.Accepted (record { sigma = pos 0; tau = pos 5_000; pi = pos 0 }) 999_967 2_033_780
+unfolding ofBits channelOf checkedOf placedOf placeOf inside gridNo wateredOf waterOf rangeOf scaled rowValue rootFrom rootOf Dw Ds Dr Dss Kw Ks Kr Aw As Ar Bw Bs rowsAt rootAt surface K0 A B bulk hundredths mass net gain density shown bulkOf shownOf shownAt modulusAt
+fresh-is = refl
+
+pub salt-is : channelOf salt ≡ Channel.Accepted (record { sigma = pos 35_000; tau = pos 5_000; pi = pos 0 }) 1_027_675 2_218_593
+unfolding ofBits channelOf checkedOf placedOf placeOf inside gridNo wateredOf waterOf rangeOf scaled rowValue rootFrom rootOf Dw Ds Dr Dss Kw Ks Kr Aw As Ar Bw Bs rowsAt rootAt surface K0 A B bulk hundredths mass net gain density shown bulkOf shownOf shownAt modulusAt
+salt-is = refl
+
+pub nothing-is : channelOf (Entry.Reading Report.Missing) ≡ Channel.Refused Refusal.Missing
+unfolding channelOf checkedOf
+nothing-is = refl

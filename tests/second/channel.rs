@@ -1,0 +1,251 @@
+//! Channels from floats: the examples of the paper, limits, halves of the grid, bad values each with each, random floats.
+
+use crate::floats::{Float, INFINITE};
+use crate::panel::{long, Panel};
+use crate::random::Random;
+use crate::recipe::Formula;
+use crate::Tally;
+use std::collections::BTreeSet;
+
+/// A kind and three floats. Deep (1) reads all three, surface (2) the first two, missing (3) none.
+#[derive(Clone, Copy, Debug)]
+pub struct Report {
+    pub kind: u32,
+    pub floats: [Float; 3],
+}
+
+/// A refusal's number, or the three grid numbers, the shown density and the bulk modulus.
+pub type Channel = Result<[i64; 5], u32>;
+
+struct Quantity {
+    low: i64,
+    high: i64,
+    per_unit: i64,
+    refusal: u32,
+}
+
+const QUANTITIES: [Quantity; 3] = [
+    Quantity { low: 0, high: 42, per_unit: 1_000, refusal: 3 },
+    Quantity { low: -2, high: 40, per_unit: 1_000, refusal: 4 },
+    Quantity { low: 0, high: 1_000, per_unit: 100, refusal: 5 },
+];
+
+pub fn channel(formula: &Formula, report: &Report) -> Channel {
+    let floats = match report.kind {
+        1 => &report.floats[..],
+        2 => &report.floats[..2],
+        3 => return Err(1),
+        _ => return Err(7),
+    };
+    if floats.iter().any(|f| f.exact().is_none()) {
+        return Err(2);
+    }
+    let mut at = [0; 3];
+    for (i, (f, q)) in floats.iter().zip(&QUANTITIES).enumerate() {
+        if !f.within(q.low, q.high) {
+            return Err(q.refusal);
+        }
+        at[i] = f.grid(q.per_unit);
+    }
+    let (density, bulk) = formula.water(at[0], at[1], at[2])?;
+    Ok([at[0], at[1], at[2], density.into(), bulk.into()])
+}
+
+impl Report {
+    pub fn put(&self, bytes: &mut Vec<u8>) {
+        bytes.extend(self.kind.to_le_bytes());
+        self.floats.iter().for_each(|f| bytes.extend(f.0.to_le_bytes()));
+    }
+
+    /// In range everywhere, anywhere.
+    pub fn ordinary(kind: u32, random: &mut Random) -> Report {
+        Report { kind, floats: [0, 1, 2].map(|place| in_range(place, random)) }
+    }
+
+    pub fn with(mut self, place: usize, float: Float) -> Report {
+        self.floats[place] = float;
+        self
+    }
+}
+
+/// A float of the place's range, all parts of the range alike.
+fn in_range(place: usize, random: &mut Random) -> Float {
+    let q = &QUANTITIES[place];
+    Float::nearest(random.between(q.low << 40, q.high << 40).into(), 1 << 40)
+}
+
+fn request(report: &Report, bytes: &mut Vec<u8>) {
+    bytes.push(b'c');
+    report.put(bytes);
+}
+
+/// The panel's answer; a refusal comes with five noughts.
+fn answer(bytes: [u8; 48]) -> Channel {
+    let five = [1, 2, 3, 4, 5].map(|i| long(&bytes, i));
+    match long(&bytes, 0) {
+        0 => Ok(five),
+        number if five == [0; 5] => Err(number.try_into().unwrap()),
+        _ => Err(u32::MAX),
+    }
+}
+
+/// Holds the panel to the second program's answer at each report; `seen` gets the panel's refusals, 0 for none.
+fn compare(panel: &Panel, formula: &Formula, seen: &mut BTreeSet<u32>, name: &'static str, reports: &[Report]) -> Tally {
+    let mut tally = Tally::new(name);
+    panel.ask(reports, request, |report, bytes| {
+        let said = answer(bytes);
+        seen.insert(said.err().unwrap_or(0));
+        tally.same(said, channel(formula, report), report);
+    });
+    tally
+}
+
+/// What the paper says in so many words: grid numbers or a refusal. The floats are patterns: 35, 5 and 100 at first.
+fn examples() -> Vec<(Report, Result<[i64; 3], u32>)> {
+    let plain = Report { kind: 1, floats: [Float(0x420c_0000), Float(0x40a0_0000), Float(0x42c8_0000)] };
+    let with = |place, bits| plain.with(place, Float(bits));
+    let (minus_zero, nan, signalling, infinite) = (0x8000_0000, 0x7fc0_0000, 0x7f80_0001, INFINITE);
+    vec![
+        (plain, Ok([35_000, 5_000, 10_000])),
+        (Report { kind: 2, ..plain }, Ok([35_000, 5_000, 0])),
+        (Report { kind: 3, ..plain }, Err(1)),
+        (Report { kind: 0, ..plain }, Err(7)),
+        (Report { kind: 4, ..plain }, Err(7)),
+        // 0.0625 and -0.0625
+        (with(1, 0x3d80_0000), Ok([35_000, 63, 10_000])),
+        (with(1, 0xbd80_0000), Ok([35_000, -62, 10_000])),
+        // 42 and the next, -2 and the next below, 40 and the next, 1,000 and the next
+        (with(0, 0x4228_0000), Ok([42_000, 5_000, 10_000])),
+        (with(0, 0x4228_0001), Err(3)),
+        (with(1, 0xc000_0000), Ok([35_000, -2_000, 10_000])),
+        (with(1, 0xc000_0001), Err(4)),
+        (with(1, 0x4220_0000), Ok([35_000, 40_000, 10_000])),
+        (with(1, 0x4220_0001), Err(4)),
+        (with(2, 0x447a_0000), Ok([35_000, 5_000, 100_000])),
+        (with(2, 0x447a_0001), Err(5)),
+        // 42.0001 would be 42,000 if it were rounded first
+        (with(0, 0x4228_001a), Err(3)),
+        // zero from both sides; the smallest float
+        (with(0, minus_zero), Ok([0, 5_000, 10_000])),
+        (with(2, minus_zero), Ok([35_000, 5_000, 0])),
+        (with(0, 1), Ok([0, 5_000, 10_000])),
+        (with(0, minus_zero + 1), Err(3)),
+        (with(2, minus_zero + 1), Err(5)),
+        (with(1, minus_zero + 1), Ok([35_000, 0, 10_000])),
+        // a NaN anywhere goes before any range; a float that is not read does not count
+        (with(0, 0x4228_0001).with(1, Float(nan)), Err(2)),
+        (with(0, 0x4228_0001).with(2, Float(signalling)), Err(2)),
+        (with(0, infinite).with(1, Float(0xc000_0001)), Err(2)),
+        (Report { kind: 2, ..with(2, nan) }, Ok([35_000, 5_000, 0])),
+        (Report { kind: 3, ..with(0, nan) }, Err(1)),
+        (Report { kind: 9, ..with(0, nan) }, Err(7)),
+    ]
+}
+
+fn paper(panel: &Panel, formula: &Formula) -> Tally {
+    let mut tally = Tally::new("the paper's examples of floats");
+    let grid = |c: Channel| c.map(|five| [five[0], five[1], five[2]]);
+    panel.ask(&examples(), |x, bytes| request(&x.0, bytes), |(report, said), bytes| {
+        tally.same(grid(answer(bytes)), *said, report);
+        tally.same(grid(channel(formula, report)), *said, report);
+    });
+    tally
+}
+
+/// Each float in each place, in deep and in surface reports whose other floats are ordinary.
+fn everywhere(floats: &[Float]) -> Vec<Report> {
+    let mut random = Random(4);
+    let mut reports = Vec::new();
+    for place in 0..3 {
+        for kind in [1, 2] {
+            reports.extend(floats.iter().map(|f| Report::ordinary(kind, &mut random).with(place, *f)));
+        }
+    }
+    reports
+}
+
+/// All floats about the ends of the ranges, tenfold pressure, zero, the least normal, the largest, infinity, the NaNs' ends,
+/// with either sign.
+fn limits() -> Vec<Report> {
+    let whole = [2, 40, 42, 100, 1_000, 10_000].map(|n| Float::nearest(n, 1));
+    let special = [0, 0x80_0000, INFINITE - 1, INFINITE, 0x7fc0_0000, 0x7fff_ffff].map(Float);
+    let middles = whole.into_iter().chain(special).flat_map(|f| [f, f.negated()]);
+    everywhere(&middles.flat_map(|f| f.around(300)).collect::<Vec<_>>())
+}
+
+/// One bit of the fraction and all but one, under every exponent and either sign: NaNs, subnormals and all powers of two.
+fn patterns() -> Vec<Report> {
+    let mut floats = Vec::new();
+    for head in 0..512 {
+        let fractions = (0..23).flat_map(|i| [1 << i, 0x7f_ffff ^ (1 << i)]).chain([0, 0x7f_ffff]);
+        floats.extend(fractions.map(|f: u32| Float(head << 23 | f)));
+    }
+    everywhere(&floats)
+}
+
+/// The floats nearest to each half of the grid, and two more each way.
+fn halves() -> Vec<Report> {
+    let mut random = Random(5);
+    let mut reports = Vec::new();
+    for (place, q) in QUANTITIES.iter().enumerate() {
+        for below in q.low * q.per_unit..q.high * q.per_unit {
+            let half = Float::nearest((2 * below + 1).into(), (2 * q.per_unit).into());
+            for kind in if place == 2 { 1..=1 } else { 1..=2 } {
+                reports.extend(half.around(2).map(|f| Report::ordinary(kind, &mut random).with(place, f)));
+            }
+        }
+    }
+    reports
+}
+
+/// Good and bad floats of each place, each with each, in reports of all kinds: so the refusals' order.
+fn bad_with_bad() -> Vec<Report> {
+    let bag = |q: &Quantity| {
+        let [low, high] = [q.low, q.high].map(|end| Float::nearest(end.into(), 1));
+        let below = if q.low == 0 { Float(0x8000_0001) } else { Float(low.0 + 1) };
+        let wild = [0x7fc0_0000, 0x7f80_0001, 0xffff_ffff, INFINITE, 0xff80_0000, 0x7f7f_ffff, 0xff7f_ffff, 0x8000_0000, 0x3f80_0000];
+        [low, high, below, Float(high.0 + 1)].into_iter().chain(wild.map(Float)).collect::<Vec<_>>()
+    };
+    let [salinities, temperatures, pressures] = [0, 1, 2].map(|i| bag(&QUANTITIES[i]));
+    let mut reports = Vec::new();
+    for kind in [1, 2, 3].into_iter().chain(WRONG_KINDS) {
+        for s in &salinities {
+            for t in &temperatures {
+                reports.extend(pressures.iter().map(|p| Report { kind, floats: [*s, *t, *p] }));
+            }
+        }
+    }
+    reports
+}
+
+/// Kinds that are none of 1, 2, 3, though some are if only their low bits are read.
+pub const WRONG_KINDS: [u32; 12] = [0, 4, 5, 6, 7, 8, 255, 257, 0x1_0002, 0x8000_0001, 0x0300_0003, u32::MAX];
+
+/// One place from all bit patterns alike or from its range, the others ordinary; deep and surface.
+fn anywhere(place: usize) -> Vec<Report> {
+    let mut random = Random(6 + place as u64);
+    let mut reports = Vec::new();
+    for i in 0..2_000_000 {
+        let report = Report::ordinary(1 + i % 2, &mut random);
+        reports.push(if i % 4 < 2 { report.with(place, Float(random.next() as u32)) } else { report });
+    }
+    reports
+}
+
+pub fn all(panel: &Panel, formula: &Formula) -> Vec<Tally> {
+    assert_eq!([35, 5, 42].map(|n| Float::nearest(n, 1)), [0x420c_0000, 0x40a0_0000, 0x4228_0000].map(Float));
+    let mut seen = BTreeSet::new();
+    let mut tallies = vec![paper(panel, formula)];
+    let mut hold = |name, reports: Vec<Report>| tallies.push(compare(panel, formula, &mut seen, name, &reports));
+    hold("floats about the limits", limits());
+    hold("floats of every exponent", patterns());
+    hold("floats about the halves of the grid", halves());
+    hold("bad floats, each with each", bad_with_bad());
+    hold("random salinities as floats", anywhere(0));
+    hold("random temperatures as floats", anywhere(1));
+    hold("random pressures as floats", anywhere(2));
+    let mut refusals = Tally::new("refusals of channels, all seen");
+    refusals.same(seen, BTreeSet::from([0, 1, 2, 3, 4, 5, 7]), &"all reports");
+    tallies.push(refusals);
+    tallies
+}
