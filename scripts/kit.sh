@@ -28,3 +28,11 @@ else
     emulate=("$kit/on/$machine/toolchain/bin/qemu-x86_64")
     command -v "$cc" >/dev/null || install gcc-x86-64-linux-gnu libc6-dev-amd64-cross
 fi
+
+# start: the words before a program that rt linked
+start=()
+if [ "$machine" != x86_64 ]; then
+    for lib in "$kit/on/$machine/toolchain/lib" "$kit/toolchain/lib"; do
+        [ -e "$lib/ld-linux-x86-64.so.2" ] && start=("${emulate[@]}" "$lib/ld-linux-x86-64.so.2" --library-path "$lib") && break
+    done
+fi

@@ -246,7 +246,8 @@ def main():
                 worst = error if below(worst, error) else worst
                 if error[0] > 12 * 10**68 * d:
                     wrong.append(f"left {left}, right {right}: the needle {needle} is over 0.0012 from the formula")
-    assert decided > len(pairs) // 2 and by_two > 1_000
+    if decided <= len(pairs) // 2 or by_two <= 1_000:
+        wrong.append("too few needles of 2 or more were seen")
 
     for line in wrong[:10]:
         print("sampling:", line)

@@ -45,8 +45,8 @@ fn from_bag(random: &mut Random) -> Report {
     let mut a_bad_one = || Float(bad[random.between(0, 7) as usize]);
     let (first, second) = (a_bad_one(), a_bad_one());
     match random.between(0, 9) {
-        0 => Report { kind: 3, ..report },
-        1 => Report { kind: WRONG_KINDS[random.between(0, WRONG_KINDS.len() as i64 - 1) as usize], ..report },
+        0 => Report { kind: 3, ..report.with(place, first) },
+        1 => Report { kind: WRONG_KINDS[random.between(0, WRONG_KINDS.len() as i64 - 1) as usize], ..report.with(place, first) },
         2 | 3 => report.with(place, first),
         4 => report.with(place, first).with((place + 1) % 3, second),
         _ => report,
@@ -76,16 +76,17 @@ pub fn all(panel: &Panel, formula: &Formula) -> Vec<Tally> {
     panel.ask(&pairs, request, |pair, bytes| {
         let [one, other] = replies(bytes);
         let [left, right] = [0, 1].map(|i| channel(formula, &pair[i]));
-        tally.same(one, expected(&left, &right), pair);
+        let second = expected(&left, &right);
+        tally.same(one, second, pair);
         tally.same(other, expected(&right, &left), pair);
         seen.extend([one[0], other[0]]);
         if one[0] == 0 {
             swapped.same(other, [0, one[2], one[1], -one[3]], pair);
-            left_heavier += u64::from(one[3] < 0);
-            right_heavier += u64::from(one[3] > 0);
         }
+        left_heavier += u32::from(second[3] < 0);
+        right_heavier += u32::from(second[3] > 0);
     });
-    assert!(left_heavier > 100_000 && right_heavier > 100_000, "too few needles off zero");
+    assert!(left_heavier > 100_000 && right_heavier > 100_000, "too few needles off zero are tried");
 
     let mut refusals = Tally::new("refusals of needles, all seen");
     let all = BTreeSet::from([0, 101, 102, 103, 104, 105, 107, 201, 202, 203, 204, 205, 207]);

@@ -1,4 +1,5 @@
--- The needle: swapping two accepted channels turns its sign and keeps its size, and it is refused exactly if a channel is. Assumes nothing.
+-- The needle: swapping two accepted channels turns its sign and keeps its size, it has a value exactly if both are accepted, and each
+-- channel depends on its own reading only. Assumes nothing.
 use Prim.Native.Nat.{ℕ, _+_}
 use mathlib.Core.Path.{_≡_, refl, ap}
 use native.Mathlib.Omega.{arith}
@@ -6,15 +7,13 @@ use lib.IntN.{ℤ, pos, negℤ, natAbs, _-ℤ_}
 use Rattle.whole.proofs.Ints.{same, size-is, sub-is, neg-plus, neg-minus}
 use Rattle.refusals.specs.declared.Refusal.{Refusal}
 use Rattle.readings.specs.declared.Point.{Point}
+use Rattle.panel.specs.declared.Entry.{Entry}
 use Rattle.panel.specs.declared.Channel.{Channel}
 use Rattle.panel.specs.declared.Needle.{Needle}
-use Rattle.panel.specs.Panel.{needleOf}
+use Rattle.panel.specs.Panel.{needleOf, pairOf}
 
 turned : (a b : ℕ) → pos a -ℤ pos b ≡ negℤ (pos b -ℤ pos a)
 turned a b = let z = pos b -ℤ pos a in same (pos a -ℤ pos b) (negℤ z) (omega (arith, sub-is (pos a) (pos b), sub-is (pos b) (pos a), neg-plus z, neg-minus z))
-
-neg-size : (z : ℤ) → natAbs (negℤ z) ≡ natAbs z
-neg-size z = omega (arith, size-is z, size-is (negℤ z), neg-plus z, neg-minus z)
 
 taken : {y z : ℤ} → Needle.Value y ≡ Needle.Value z → y ≡ z
 taken e = cc
@@ -30,7 +29,7 @@ swapped (Channel.Refused s) r z e = absurd (never e)
 
 -- and the size stays
 pub swapped-size : (z : ℤ) → natAbs (negℤ z) ≡ natAbs z
-swapped-size = neg-size
+swapped-size z = omega (arith, size-is z, size-is (negℤ z), neg-plus z, neg-minus z)
 
 -- the needle has a value exactly if both channels are accepted
 pub record Both (l r : Channel) : Type 0 where
@@ -48,3 +47,12 @@ value-accepted (Channel.Accepted p d k) (Channel.Accepted q c j) z e =
     record { left-at = p; left-density = d; left-bulk = k; left-is = refl; right-at = q; right-density = c; right-bulk = j; right-is = refl }
 value-accepted (Channel.Accepted p d k) (Channel.Refused s) z e = absurd (never e)
 value-accepted (Channel.Refused s) r z e = absurd (never e)
+
+-- ---- each channel depends on its own reading only: whatever stands in the other one
+pub left-own : (l r r′ : Entry) → (pairOf l r) .left ≡ (pairOf l r′) .left
+unfolding pairOf
+left-own l r r′ = refl
+
+pub right-own : (l l′ r : Entry) → (pairOf l r) .right ≡ (pairOf l′ r) .right
+unfolding pairOf
+right-own l l′ r = refl

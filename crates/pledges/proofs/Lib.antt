@@ -1,1 +1,2 @@
 pub mod Pledges
+pub mod OneAnswer

@@ -39,7 +39,7 @@ pub record Root (w n : ℕ) : Type 0 where
   pub high : n < (w + 1) * (w + 1)
 
 -- the root of n, below 2⁶⁴, bit by bit from 2³¹ down: a bit is kept where the square stays at most n.
--- (It is the greatest whole number whose square is at most n, and the only one: `root-of`, `root-greatest` and `root-only` of proofs/Roots.)
+-- (It is the greatest whole number whose square is at most n, and the only one: `root-is`, `root-greatest` and `root-only` of proofs/Roots.)
 unfoldable pub rootFrom : ℕ → ℕ → ℕ → ℕ
 rootFrom zero w n = w
 rootFrom (suc k) w n = rootFrom k (cond (leb ((w + 2 ^ k) * (w + 2 ^ k)) n) (w + 2 ^ k) w) n
