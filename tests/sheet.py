@@ -16,8 +16,10 @@ import struct
 import subprocess
 import sys
 import tempfile
+import threading
 import time
 from concurrent.futures import ThreadPoolExecutor
+from contextlib import suppress
 from fractions import Fraction
 from functools import lru_cache
 from math import floor, isqrt
@@ -26,7 +28,7 @@ from pathlib import Path
 ROOT = Path(__file__).resolve().parent.parent
 WORKERS = 2
 PATIENCE = 30  # seconds after which a run counts as hanging
-RANDOM_STREAMS = 1_500
+RANDOM_STREAMS = 1_300
 
 # ---- the model: a float
 
@@ -162,7 +164,7 @@ def page(stream):
 CHECK_POINTS = [
     ((0, 5, 0), 999967), ((0, 5, 1000), 1044128), ((0, 25, 0), 997048), ((0, 25, 1000), 1037902),
     ((35, 5, 0), 1027675), ((35, 5, 1000), 1069489), ((35, 25, 0), 1023343), ((35, 25, 1000), 1062538),
-]  # fmt: skip
+]
 EXAMPLE = bytes.fromhex(
     "08 00 02 00 00 00 00 00 00 00 A0 40 08 00 02 00 00 00 0C 42 00 00 A0 40 00 00 03 00 08 00 02 00 00 00 00 00 00 00 A0 40"
 )
@@ -227,10 +229,10 @@ def specials(place):
 def halves(place, rng):
     """Floats whose grid number hangs on the half: exact halves, and the nearest to others with their neighbours."""
     low, high, unit, _ = QUANTITIES[place]
-    per_unit = 16 if unit == 1_000 else 8  # halves of a grid step that are floats are odd multiples of a sixteenth, an eighth
-    exact = [(2 * n + 1) / per_unit for n in range(low * per_unit // 2, high * per_unit // 2)]
-    near = [(n + 0.5) / unit for n in [low * unit, high * unit - 1] + [rng.randrange(low * unit, high * unit) for _ in range(300)]]
-    return [bits_of(x) for x in rng.sample(exact, min(len(exact), 300))] + [b for x in near for b in around(bits_of(x))]
+    parts = 16 if unit == 1_000 else 8  # (n + 1/2)/1,000 is a float only as an odd multiple of 1/16; (n + 1/2)/100: of 1/8
+    exact = rng.sample([n / parts for n in range(low * parts + 1, high * parts, 2)], 300)
+    near = [n / unit + 0.5 / unit for n in [low * unit, high * unit - 1] + rng.sample(range(low * unit, high * unit), 300)]
+    return [bits_of(x) for x in exact] + [b for x in near for b in around(bits_of(x))]
 
 
 def with_place(place, bits, kind=1):
@@ -239,52 +241,50 @@ def with_place(place, bits, kind=1):
 
 
 def both_sides(records):
-    """Each record on the left and on the right."""
+    """One stream with each record on one side, one with each on the other."""
     stream = b"".join(records)
     return [stream, MISSING + stream]
 
 
 def cut_to_fit(records):
-    """Streams that the records fill, none over 60,000 bytes."""
-    streams, now = [], b""
+    """The same with as many streams as are needed, none over 60,000 bytes."""
+    some, size = [], len(MISSING)
     for r in records:
-        if len(now) + len(r) > 59_996:  # room for a missing one in front
-            streams.append([])
-            now = b""
-        if not streams:
-            streams.append([])
-        streams[-1].append(r)
-        now += r
-    return [s for some in streams for s in both_sides(some)]
+        if size + len(r) > 60_000:
+            yield from both_sides(some)
+            some, size = [], len(MISSING)
+        some.append(r)
+        size += len(r)
+    yield from both_sides(some)
 
 
 # One of everything: each kind, refused floats, unknown kinds and wrong lengths, and a body that looks like records.
 ALL_KINDS = b"".join(
     [DEEP, SURFACE, MISSING, surface(PLAIN[0], NANS[0]), made(17, MISSING + SURFACE[:5]), made(2, DEEP[4:]), made(3, MISSING),
      deep(PLAIN[0], PLAIN[1], 0x447A0001), made(1, b""), SURFACE, made(4, b"\1\2\3\4\5")]
-)  # fmt: skip
+)
 KINDS = [0, 1, 2, 3, 4, 5, 16, 17, 255, 256, 257, 258, 512, 768, 65535]
-LENGTHS = [0, 1, 4, 7, 8, 9, 11, 12, 13, 255, 256, 264, 268, 2048, 3072]
+SHORT_LENGTHS = [0, 1, 4, 7, 8, 9, 11, 12, 13]
+LENGTHS = [*SHORT_LENGTHS, 255, 256, 264, 268, 2048, 3072]
 
 
 def filling(length):
-    """A body of valid floats, which also reads as records for whoever steps wrongly."""
+    """A body of valid floats."""
     return (SURFACE[4:] * (length // 8 + 1))[:length]
 
 
 def heads():
-    """Every kind with every length: alone, before a good record, cut by a byte; all in one stream; the greatest length."""
-    every = [made(k, filling(n)) for k in KINDS for n in LENGTHS]
-    yield from (r + SURFACE for r in every)
-    yield from (SURFACE + r for r in every if len(r) < 20)
-    yield from (r[:-1] for r in every if len(r) < 20)
-    yield from cut_to_fit(every)
+    """Every kind with every length, all in one stream; the short ones alone before a good record and cut by a byte; the
+    greatest length, and bodies that just fit or just do not."""
+    yield from cut_to_fit([made(k, filling(n)) for k in KINDS for n in LENGTHS])
+    short = [made(k, filling(n)) for k in (0, 1, 2, 3, 4, 17, 256, 513, 65535) for n in SHORT_LENGTHS]
+    yield from (r + SURFACE for r in short)
+    yield from (r[:-1] for r in short)
     for k in (1, 2, 3, 4):
         for length, held in ((65_535, 0), (65_535, 12), (65_535, 40_000), (59_997, 59_996), (59_996, 59_996), (59_992, 59_992)):
             head = made(k, filling(held), length)
             yield head
             yield MISSING + head[:59_996]
-            yield (head + SURFACE)[:60_000]
 
 
 def trailing():
@@ -322,11 +322,38 @@ def float_streams(rng):
             yield with_place(place, b) + SURFACE
 
 
+# Waters, in grid numbers and found by search, whose shown density hangs on the last unit: each would show such a slip.
+KNIFE_EDGES = {
+    "a scaled product rounded towards zero": [
+        (1939, 16136, 11891), (26750, 29562, 31717), (0, 28926, 54105), (15120, 17441, 567), (0, 39549, 98140),
+        (1063, -36, 67268), (1098, 39454, 99137), (25031, 8145, 61249),
+    ],
+    "K for N rounded up": [
+        (0, -1098, 99231), (0, 17249, 98591), (0, -1283, 65118), (11192, -1735, 91544), (32957, 8886, 91603), (41298, 36718, 65300),
+    ],
+    "a root one too large, just below a square": [
+        (1562, 3490, 87171), (3516, 8029, 57292), (6249, 11239, 0), (14061, 7777, 25533), (24999, -861, 0), (25002, 39916, 0),
+    ],
+    "a root one too small, at a square": [
+        (640, 8790, 0), (1000, -320, 23879), (2250, 9020, 0), (25000, 16443, 0), (28090, -604, 22475), (40960, 3932, 0),
+    ],
+    "the last digit of a coefficient": [
+        (33784, 38764, 0), (0, 39924, 22995), (0, 38407, 0), (3534, 39977, 66445), (23360, 35158, 90258), (0, 38910, 94050),
+        (25061, 38522, 98475), (0, 39407, 99169), (6754, 38493, 91150),
+    ],
+}
+
+
+def knife_edges():
+    waters = [deep(bits_of(s / 1_000), bits_of(t / 1_000), bits_of(p / 100)) for some in KNIFE_EDGES.values() for s, t, p in some]
+    return both_sides(waters)
+
+
 def sizes(rng):
     mixture = (DEEP + SURFACE + MISSING + made(9, b"xyz")) * 5_000
     for n in (1, 59_999, 60_000, 60_001, 60_002, 65_535, 65_536, 65_537, 200_000):
         yield bytes(n)
-        yield (mixture)[:n]
+        yield mixture[:n]
         yield rng.randbytes(n)
         yield (MISSING * 50_000)[:n]
         yield made(2, bytes(n))[:n] if n < 65_536 else SURFACE + bytes(n - 12)
@@ -359,7 +386,7 @@ def any_record(rng):
         return MISSING
     if way < 0.95:
         return made(rng.choice(KINDS), filling(rng.choice((0, 8, 12))))
-    return made(rng.randint(1, 3), filling(rng.choice(LENGTHS[:9])))
+    return made(rng.randint(1, 3), filling(rng.choice(SHORT_LENGTHS)))
 
 
 def mutated(stream, rng):
@@ -399,7 +426,7 @@ def streams():
     yield from (EXAMPLE[:n] for n in range(len(EXAMPLE) + 1))
     for whole in (ALL_KINDS, MISSING + ALL_KINDS):
         yield from (whole[:n] for n in range(len(whole) + 1))
-    for part in (heads(), trailing(), refusal_order(rng), float_streams(rng), sizes(rng)):
+    for part in (heads(), trailing(), refusal_order(rng), float_streams(rng), knife_edges(), sizes(rng)):
         yield from part
     yield from (LONGEST_PAGE, LONGEST_PAGE[4:], LONGEST_PAGE + b"\0", WIDEST_LINES, WIDEST_LINES[16:])
     yield from (SURFACE * n for n in (1, 2, 3, 7, 99, 2_499, 5_000))
@@ -407,7 +434,7 @@ def streams():
 
 
 def covered(every):
-    """No refusal number, no sign of a needle may be missing from what is tried, on either side."""
+    """Every refusal number on either side and every sign of a needle is among what is tried."""
     found = set()
     for stream in every:
         if len(stream) <= 60_000:
@@ -425,6 +452,33 @@ def covered(every):
 # ---- sheet
 
 
+class Started:
+    """A started sheet. When its time is over it is stopped and counts as hanging, so that no wait for it is without end."""
+
+    def __init__(self, command, **how):
+        self.hangs = False
+        self.process = subprocess.Popen(command, bufsize=0, **how)
+        self.timer = threading.Timer(PATIENCE, self.stop)
+        self.timer.daemon = True
+        self.timer.start()
+
+    def stop(self):
+        self.hangs = True
+        self.process.kill()
+
+    def end(self):
+        """Words for what is wrong with its end, if anything is."""
+        self.process.wait()
+        self.timer.cancel()
+        if self.hangs:
+            return f"no end within {PATIENCE} s"
+        return f"status {self.process.returncode}" if self.process.returncode else None
+
+    def printed(self, stream=None):
+        got, _ = self.process.communicate(stream)
+        return self.end() or got
+
+
 class Trial:
     def __init__(self, command):
         self.command = command
@@ -436,132 +490,115 @@ class Trial:
         if self.different <= 10:
             print("\n  ".join(lines), flush=True)
 
-    def compare(self, what, stream, got, expected=None):
-        """`got` is what was printed, or words for why nothing can be compared."""
+    def compare(self, what, stream, got):
+        """`got` is what was printed, or words for what went wrong."""
         self.streams += 1
-        expected = page(stream) if expected is None else expected
-        if got != expected:
-            hexed = stream[:2_000].hex(" ", 4) + (f" .. ({len(stream)} bytes)" if len(stream) > 2_000 else "")
-            if isinstance(got, bytes):
-                got_lines, expected_lines = got.split(b"\n"), expected.split(b"\n")
-                at = next((i for i, (a, b) in enumerate(zip(got_lines, expected_lines)) if a != b), min(len(got_lines), len(expected_lines)))
-                shown = [f"from line {at + 1} on", f"expected: {expected_lines[at:at + 3]}", f"got:      {got_lines[at:at + 3]}"]
-            else:
-                shown = [f"expected: {expected[:300]}", f"got:      {got}"]
-            self.wrong(f"sheet: {what}: different", f"input:    {hexed}", *shown)
+        expected = page(stream)
+        if got == expected:
+            return
+        hexed = stream[:2_000].hex(" ") + (f" .. ({len(stream)} bytes)" if len(stream) > 2_000 else "")
+        if isinstance(got, bytes):
+            lines = [text.split(b"\n") for text in (expected, got)]
+            at = next((i for i, (a, b) in enumerate(zip(*lines)) if a != b), min(map(len, lines)))
+            shown = [f"{name} {text[at:at + 3]}" for name, text in zip(("expected:", "got:     "), lines)]
+            self.wrong(f"sheet: {what}: different from line {at + 1} on", f"input:    {hexed}", *shown)
+        else:
+            self.wrong(f"sheet: {what}: {got}", f"input:    {hexed}", f"expected: {expected[:300]}")
 
-    def run(self, command=None, **how):
-        """What sheet prints, or words if it does not end well."""
-        try:
-            done = subprocess.run(command or self.command, stdout=subprocess.PIPE, timeout=PATIENCE, **how)
-        except subprocess.TimeoutExpired:
-            return f"no end within {PATIENCE} s"
-        return done.stdout if done.returncode == 0 else f"status {done.returncode}"
+    def start(self, **how):
+        return Started(self.command, stdin=subprocess.PIPE, stdout=subprocess.PIPE, **how)
 
     def all_streams(self):
-        every = list(streams())
+        every = list(dict.fromkeys(streams()))
         covered(every)
+        hanging = []
+
+        def run(stream):
+            if len(hanging) > 3:
+                return "not run, others hang"
+            sheet = self.start()
+            got = sheet.printed(stream)
+            hanging.extend([stream] * sheet.hangs)
+            return got
+
         with ThreadPoolExecutor(WORKERS) as pool:
-            for stream, got in zip(every, pool.map(lambda s: self.run(input=s), every)):
+            for stream, got in zip(every, pool.map(run, every)):
                 self.compare("a stream", stream, got)
 
-    # ---- pipes
+    # ---- standard input: pipes, files, closed
 
     def slowly(self, stream, piece, delay):
         """From a pipe, some bytes at a time."""
-        sheet = subprocess.Popen(self.command, stdin=subprocess.PIPE, stdout=subprocess.PIPE, bufsize=0)
-        try:
+        sheet = self.start()
+        with suppress(BrokenPipeError):
             for at in range(0, len(stream), piece):
-                sheet.stdin.write(stream[at : at + piece])
+                sheet.process.stdin.write(stream[at : at + piece])
                 time.sleep(delay)
-        except BrokenPipeError:
-            pass
-        got = self.ended(sheet)
-        self.compare(f"a pipe, {piece} bytes at a time", stream, got)
+        self.compare(f"a pipe, {piece} bytes at a time", stream, sheet.printed())
 
-    def ended(self, sheet):
-        try:
-            got, _ = sheet.communicate(timeout=PATIENCE)
-        except subprocess.TimeoutExpired:
-            sheet.kill()
-            sheet.communicate()
-            return f"no end within {PATIENCE} s"
-        return got if sheet.returncode == 0 else f"status {sheet.returncode}"
+    def from_file(self, what, stream, file):
+        self.compare(what, stream, Started(self.command, stdin=file, stdout=subprocess.PIPE).printed())
 
-    def read_slowly(self, stream):
-        """The page is longer than a pipe holds, and taken from it bit by bit."""
-        sheet = subprocess.Popen(self.command, stdin=subprocess.PIPE, stdout=subprocess.PIPE, bufsize=0)
-        sheet.stdin.write(stream)
-        sheet.stdin.close()
-        got = b""
-        while piece := sheet.stdout.read(1_000):
-            got += piece
-            time.sleep(0.001)
-        sheet.stdout.close()
-        self.compare("a page read slowly", stream, got if sheet.wait(PATIENCE) == 0 else f"status {sheet.returncode}")
-
-    def from_files(self):
-        """Standard input is a file, a file read from its middle, nothing, endless, closed."""
-        with tempfile.TemporaryFile() as file:
-            file.write(SURFACE + ALL_KINDS)
-            for at in (0, len(SURFACE), len(SURFACE + ALL_KINDS)):
-                file.seek(at)
-                self.compare("a file", (SURFACE + ALL_KINDS)[at:], self.run(stdin=file))
-        with open("/dev/null", "rb") as nothing, open("/dev/zero", "rb") as endless:
-            self.compare("no input", b"", self.run(stdin=nothing))
-            self.compare("endless input", bytes(60_001), self.run(stdin=endless))
-        self.compare("standard input closed", b"", self.run(["sh", "-c", 'exec "$@" <&-', "sh", *self.command]))
-
-    # ---- standard output closed: sheet must end by itself
-
-    def ends(self, what, sheet):
-        """Whatever its status."""
-        self.streams += 1
-        try:
-            sheet.wait(PATIENCE)
-        except subprocess.TimeoutExpired:
-            sheet.kill()
-            sheet.wait()
-            self.wrong(f"sheet: {what}: no end within {PATIENCE} s")
-
-    def closed_output(self):
-        with tempfile.TemporaryFile() as file:
-            for stream in (EXAMPLE, LONGEST_PAGE, bytes(60_001)):
-                # with the signal for a broken pipe and, as Python leaves it ignored, without
-                for signals in (True, False):
-                    file.seek(0)
-                    file.truncate()
-                    file.write(stream)
-                    file.seek(0)
-                    reads, writes = os.pipe()
-                    os.close(reads)
-                    self.ends("standard output has no reader", subprocess.Popen(self.command, stdin=file, stdout=writes, restore_signals=signals))
-                    os.close(writes)
-
-                    file.seek(0)
-                    reads, writes = os.pipe()
-                    sheet = subprocess.Popen(self.command, stdin=file, stdout=writes, restore_signals=signals)
-                    os.close(writes)
-                    os.read(reads, 5)
-                    os.close(reads)
-                    self.ends("standard output's reader leaves", sheet)
-                file.seek(0)
-                self.ends("standard output closed", subprocess.Popen(["sh", "-c", 'exec "$@" >&-', "sh", *self.command], stdin=file))
-                if os.path.exists("/dev/full"):
-                    file.seek(0)
-                    with open("/dev/full", "wb") as full:
-                        self.ends("no room for standard output", subprocess.Popen(self.command, stdin=file, stdout=full))
-
-    def pipes(self):
-        self.from_files()
-        self.closed_output()
+    def inputs(self):
         for piece in (1, 3, 7):
             for stream in (EXAMPLE, ALL_KINDS[:-1], MISSING * 3 + b"\x08"):
                 self.slowly(stream, piece, 0.002)
         self.slowly(ALL_KINDS * 400, 4_099, 0.005)
         self.slowly(LONGEST_PAGE, 30_000, 0.02)
         self.slowly(LONGEST_PAGE + b"\0", 60_000, 0.02)
+        with tempfile.TemporaryFile() as file:
+            file.write(SURFACE + ALL_KINDS)
+            for at in (0, len(SURFACE), len(SURFACE + ALL_KINDS)):
+                file.seek(at)
+                self.from_file("a file, from its middle too", (SURFACE + ALL_KINDS)[at:], file)
+        with open("/dev/null", "rb") as nothing, open("/dev/zero", "rb") as endless:
+            self.from_file("no input", b"", nothing)
+            self.from_file("endless input", bytes(60_001), endless)
+        closed = Started(["sh", "-c", 'exec "$@" <&-', "sh", *self.command], stdout=subprocess.PIPE)
+        self.compare("standard input closed", b"", closed.printed())
+
+    # ---- standard output: read slowly, or not to the end, when sheet must end by itself
+
+    def read_slowly(self, stream):
+        """The page is longer than a pipe holds."""
+        sheet = self.start()
+        with suppress(BrokenPipeError):
+            sheet.process.stdin.write(stream)
+        sheet.process.stdin.close()
+        got = b""
+        while piece := sheet.process.stdout.read(1_000):
+            got += piece
+            time.sleep(0.001)
+        sheet.process.stdout.close()
+        self.compare("a page read slowly", stream, sheet.end() or got)
+
+    def ends(self, what, stream, read=0, command=None, out=None, **how):
+        """It ends, whatever its status, though nobody reads more than the first bytes."""
+        self.streams += 1
+        with tempfile.TemporaryFile() as file:
+            file.write(stream)
+            file.seek(0)
+            reads, writes = os.pipe()
+            if not read:
+                os.close(reads)
+            sheet = Started(command or self.command, stdin=file, stdout=out or writes, **how)
+            os.close(writes)
+            if read:
+                os.read(reads, read)
+                os.close(reads)
+            said = sheet.end()
+        if sheet.hangs:
+            self.wrong(f"sheet: {what}, input of {len(stream)} bytes: {said}")
+
+    def outputs(self):
         self.read_slowly(LONGEST_PAGE)
+        for stream in (EXAMPLE, LONGEST_PAGE, bytes(60_001)):
+            for signals in (True, False):  # with the signal of a broken pipe and, as Python ignores it, without
+                self.ends("standard output without a reader", stream, restore_signals=signals)
+                self.ends("standard output's reader leaves", stream, read=5, restore_signals=signals)
+            self.ends("standard output closed", stream, command=["sh", "-c", 'exec "$@" >&-', "sh", *self.command])
+            with open("/dev/full", "wb") as full:
+                self.ends("standard output without room", stream, out=full)
 
     # ---- system calls
 
@@ -569,64 +606,67 @@ class Trial:
         if not shutil.which("strace"):
             return print("sheet: system calls not counted: no strace")
         if platform.machine() != "x86_64" or any("qemu" in os.path.basename(word) for word in self.command):
-            return print("sheet: system calls not counted: an emulator runs the program")
+            return print("sheet: system calls not counted: the program runs under an emulator")
         with tempfile.TemporaryDirectory() as room:
-            source, calls = Path(room, "stream"), Path(room, "calls")
+            source, calls, out = (Path(room, name) for name in ("stream", "calls", "page"))
             source.write_bytes(LONGEST_PAGE)
-            with open(source, "rb") as stream, open(Path(room, "page"), "wb") as out:
-                done = subprocess.run(["strace", "-f", "-o", calls, *self.command], stdin=stream, stdout=out, stderr=subprocess.DEVNULL)
-            if done.returncode != 0:
-                return print("sheet: system calls not counted: strace is not allowed to")
-            self.compare("traced", LONGEST_PAGE, Path(room, "page").read_bytes())
-            said = calls.read_text(errors="replace")
-            reads, writes, every = (len(re.findall(p, said, re.M)) for p in (r"\bread\(0,", r"\bwrite\(1,", r"^.*\w\("))
+            with open(source, "rb") as stream, open(out, "wb") as printed:
+                traced = ["strace", "-f", "-o", calls, *self.command]
+                said = Started(traced, stdin=stream, stdout=printed, stderr=subprocess.DEVNULL).end()
+            if said:
+                return print(f"sheet: system calls not counted: strace ends with {said}")
+            self.compare("traced", LONGEST_PAGE, out.read_bytes())
+            text = calls.read_text(errors="replace")
+            reads, writes, every = (len(re.findall(p, text, re.M)) for p in (r"\bread\(0,", r"\bwrite\(1,", r"^.*\w\("))
             if not (1 <= reads <= 4 and 1 <= writes <= 4 and every <= 120):
                 self.wrong(f"sheet: {reads} reads, {writes} writes and {every} system calls for 60,000 bytes")
 
     # ---- examples/ and docs/FORMAT.md
 
     def make_stream(self, text, *words):
-        return subprocess.run(
-            [sys.executable, ROOT / "examples" / "make-stream", *words], input=text, capture_output=True, timeout=PATIENCE
-        )
+        """Status, what was written and what was said."""
+        script = ROOT / "examples" / "make-stream"
+        done = subprocess.run([sys.executable, script, *words], input=text, capture_output=True, timeout=PATIENCE)
+        return done.returncode, done.stdout, done.stderr.decode()
 
-    def examples(self):
-        folder = ROOT / "examples"
-        source, stream, expected = (folder / f"two-intakes.{end}" for end in ("txt", "bin", "expected"))
+    def holds(self, what, expected, got):
+        if got != expected:
+            self.wrong(f"make-stream: {what}", f"expected: {expected}", f"got:      {got}")
+
+    def two_intakes(self):
+        text, stream, expected = (ROOT / "examples" / f"two-intakes.{end}" for end in ("txt", "bin", "expected"))
         kept = stream.read_bytes()
-        self.compare("two-intakes", kept, self.run(input=kept))
+        self.compare("two-intakes.bin", kept, self.start().printed(kept))
         self.compare("two-intakes.expected", kept, expected.read_bytes())
+        self.holds("two-intakes.txt by its name", (0, kept, ""), self.make_stream(b"", text))
+        self.holds("two-intakes.txt as standard input", (0, kept, ""), self.make_stream(text.read_bytes()))
         with tempfile.TemporaryDirectory() as room:
             target = Path(room, "stream")
-            for how, done in (
-                ("from a file", self.make_stream(b"", source)),
-                ("from standard input", self.make_stream(source.read_bytes())),
-                ("with -", self.make_stream(source.read_bytes(), "-")),
-            ):
-                if (done.returncode, done.stdout, done.stderr) != (0, kept, b""):
-                    self.wrong(f"make-stream: two-intakes.txt {how} gives another stream than two-intakes.bin", f"{done}")
-            done = self.make_stream(b"", source, target)
-            if (done.returncode, done.stdout, done.stderr) != (0, b"", b"") or target.read_bytes() != kept:
-                self.wrong("make-stream: two-intakes.txt to a file gives another stream than two-intakes.bin", f"{done}")
+            self.holds("two-intakes.txt to a file", (0, b"", ""), self.make_stream(text.read_bytes(), "-", target))
+            self.holds("two-intakes.txt to a file", kept, target.read_bytes())
 
-            for text, bytes_ in MAKES:
-                done = self.make_stream(text)
-                if done.returncode != 0 or done.stdout != bytes_ or bool(done.stderr) != bool(len(pairs(bytes_)) and pairs(bytes_)[-1][1] == "R6"):
-                    self.wrong(f"make-stream: {text}", f"expected: {bytes_.hex(' ')}", f"got:      {done}")
+    def texts(self):
+        for text, stream in MAKES:
+            self.holds(text, (0, stream, ""), self.make_stream(text))
+        note = "make-stream: note: the last left has no right; sheet will show R6 for it\n"
+        self.holds("an odd number of readings", (0, DEEP, note), self.make_stream(b"deep 35 5 250"))
+        with tempfile.TemporaryDirectory() as room:
+            target, absent = Path(room, "stream"), Path(room, "absent")
+            target.write_bytes(b"kept")
             for text, says in REFUSES:
-                target.write_bytes(b"kept")
                 for words in ((), ("-", target)):
-                    done = self.make_stream(text, *words)
-                    said = f"make-stream: {says}\n".encode()
-                    if (done.returncode, done.stdout, done.stderr, target.read_bytes()) != (2, b"", said, b"kept"):
-                        self.wrong(f"make-stream: {text}", f"expected: status 2, {said}", f"got:      {done}")
-            for words in ((Path(room, "absent"),), ("-", Path(room, "absent", "stream")), ("a", "b", "c"), ("--help",)):
-                done = self.make_stream(b"missing\nmissing\n", *words)
-                if done.returncode != 2 or done.stdout or not done.stderr.startswith(b"make-stream: ") or done.stderr.count(b"\n") != 1:
-                    self.wrong(f"make-stream: arguments {words}", f"got: {done}")
+                    self.holds(text, (2, b"", f"make-stream: {says}\n"), self.make_stream(text, *words))
+                self.holds("a refused text leaves the file as it was", b"kept", target.read_bytes())
+            for words in ((absent,), ("-", absent / "stream"), (room,), ("a", "b", "c"), ("--help",)):
+                status, wrote, said = self.make_stream(b"missing\nmissing\n", *words)
+                one_line = said.startswith("make-stream: ") and said.find("\n") == len(said) - 1
+                self.holds(f"arguments {words}", (2, b"", True), (status, wrote, one_line))
 
-        # The bytes that the page for probe builders takes apart are the paper's.
-        shown = re.findall(r"^((?:[0-9A-F]{2} )+) ", (ROOT / "docs" / "FORMAT.md").read_text(), re.M)
+    def examples(self):
+        self.two_intakes()
+        self.texts()
+        # The bytes that the page for probe builders takes apart are document 01's.
+        shown = re.findall(r"^((?:[0-9A-F]{2} {1,2})+)", (ROOT / "docs" / "FORMAT.md").read_text("utf-8"), re.M)
         if bytes.fromhex("".join(shown)) != EXAMPLE:
             self.wrong("docs/FORMAT.md: the bytes taken apart are not the example's", f"got: {shown}")
 
@@ -638,7 +678,6 @@ MAKES = [
     (b"surface 0 5\nsurface 35 5\nmissing\nsurface 0 5\n", EXAMPLE),
     (b"surface 0 5\r\n\r\n  surface\t35.0 +5e0 # the right\r\nmissing#\nsurface .0 5.", EXAMPLE),
     (b"deep 35 5 250\nmissing", DEEP + MISSING),
-    (b"deep 35 5 250", DEEP),
     (b"surface nan -inf\nsurface -0 INF", surface(0x7FC00000, 0xFF800000) + surface(0x80000000, 0x7F800000)),
     (b"deep 42.000004 -2 1e3\nsurface 1e-45 -1e30", deep(0x42280001, 0xC0000000, 0x447A0000) + surface(1, bits_of(-1e30))),
     ("# 5 °C\nmissing\nmissing # müde\n".encode("latin-1"), MISSING * 2),
@@ -659,8 +698,8 @@ REFUSES = [
     (b"surface . 5\n", "line 1: '.' is not a number such as 35, 4.25 or -1.5"),
     (b"surface 5 1e39\n", "line 1: 1e39 is too large for a 32-bit float"),
     (b"surface 5 1e999\n", "line 1: 1e999 is too large for a 32-bit float"),
-    (b"surface 1 2\nmiss\xffing\n", "line 2: 'miss\N{REPLACEMENT CHARACTER}ing' is none of deep, surface, missing"),
-]  # fmt: skip
+    (b"surface 1 2\nmiss\xffing\n", r"line 2: 'miss\xffing' is none of deep, surface, missing"),
+]
 
 
 def main():
@@ -670,7 +709,8 @@ def main():
     hold_model()
     trial = Trial(command)
     trial.examples()
-    trial.pipes()
+    trial.inputs()
+    trial.outputs()
     trial.few_calls()
     trial.all_streams()
     print(f"sheet: {trial.streams} streams, {trial.different} different")

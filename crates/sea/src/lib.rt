@@ -133,19 +133,20 @@ fn rows_at(tau: i64) -> Rows
     requires { ⌜ Lies (neg 2_000) (pos 40_000) tau ⌝ }
     ensures { λ r. ⌜ r ≡ the.rowsAt tau ⌝ }
 {
+    let table = ROWS;
     Rows {
-        Dw: whole::row_value(ROWS[0], tau),
-        Ds: whole::row_value(ROWS[1], tau),
-        Dr: whole::row_value(ROWS[2], tau),
-        Dss: whole::row_value(ROWS[3], tau),
-        Kw: whole::row_value(ROWS[4], tau),
-        Ks: whole::row_value(ROWS[5], tau),
-        Kr: whole::row_value(ROWS[6], tau),
-        Aw: whole::row_value(ROWS[7], tau),
-        As: whole::row_value(ROWS[8], tau),
-        Ar: whole::row_value(ROWS[9], tau),
-        Bw: whole::row_value(ROWS[10], tau),
-        Bs: whole::row_value(ROWS[11], tau),
+        Dw: whole::row_value(table[0], tau),
+        Ds: whole::row_value(table[1], tau),
+        Dr: whole::row_value(table[2], tau),
+        Dss: whole::row_value(table[3], tau),
+        Kw: whole::row_value(table[4], tau),
+        Ks: whole::row_value(table[5], tau),
+        Kr: whole::row_value(table[6], tau),
+        Aw: whole::row_value(table[7], tau),
+        As: whole::row_value(table[8], tau),
+        Ar: whole::row_value(table[9], tau),
+        Bw: whole::row_value(table[10], tau),
+        Bs: whole::row_value(table[11], tau),
     }
 }
 

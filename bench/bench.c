@@ -1,0 +1,234 @@
+/* bench check: whether plain C and the library give the same answers. bench time: how many a second, side by side. bench once WHAT DATA:
+ * one turn over the smaller data, for an instruction count. A result is a line: what, data, who, figure, unit. */
+#include <stdio.h>
+#include <stdlib.h>
+#include <string.h>
+#include <time.h>
+#include "plain.h"
+#include "warpsorrel.h"
+
+/* ---- data, always the same */
+
+static uint64_t state;
+
+static uint64_t draw(uint64_t below) {
+    state += UINT64_C(0x9e3779b97f4a7c15);
+    uint64_t z = state;
+    z = (z ^ z >> 30) * UINT64_C(0xbf58476d1ce4e5b9);
+    z = (z ^ z >> 27) * UINT64_C(0x94d049bb133111eb);
+    return (z ^ z >> 31) % below;
+}
+
+#define MOST 16384
+#define FEW 1000
+
+static const char *const waters[] = {"uniform", "sea-like", "one-salinity"};
+static struct reading {
+    int64_t sigma, tau, pi;
+    double s, t, p;
+    float salinity, temperature, pressure;
+} readings[MOST];
+
+/* Temperature and pressure over their whole ranges; the salinity too, or from 33 to 36, or 35. */
+static void take_readings(const char *which) {
+    state = 1;
+    for (int i = 0; i < MOST; i++) {
+        struct reading *r = &readings[i];
+        r->sigma = which == waters[0] ? (int64_t)draw(42001) : which == waters[1] ? 33000 + (int64_t)draw(3001) : 35000;
+        r->tau = (int64_t)draw(42001) - 2000;
+        r->pi = (int64_t)draw(100001);
+        r->s = (double)r->sigma / 1000;
+        r->t = (double)r->tau / 1000;
+        r->p = (double)r->pi / 100;
+        r->salinity = (float)r->s;
+        r->temperature = (float)r->t;
+        r->pressure = (float)r->p;
+    }
+}
+
+static const char *const streams[] = {"deep", "surface", "missing"};
+static uint8_t stream[60000], page[WARPSORREL_PAGE], other_page[WARPSORREL_PAGE];
+
+/* 60,000 bytes of records of one kind. */
+static void take_stream(const char *which) {
+    uint32_t kind = which == streams[0] ? 1 : which == streams[1] ? 2 : 3, body = kind == 1 ? 12 : kind == 2 ? 8 : 0;
+    take_readings(waters[0]);
+    for (size_t at = 0, i = 0; at < sizeof stream; at += 4 + body, i++) {
+        uint8_t head[4] = {(uint8_t)body, 0, (uint8_t)kind, 0};
+        float floats[3] = {readings[i].salinity, readings[i].temperature, readings[i].pressure};
+        memcpy(stream + at, head, 4);
+        memcpy(stream + at + 4, floats, body);
+    }
+}
+
+/* ---- what is measured; each gives a number that depends on every answer */
+
+static uint64_t library_grid(int n) {
+    uint64_t sum = 0;
+    for (int i = 0; i < n; i++) sum += warpsorrel_density(readings[i].sigma, readings[i].tau, readings[i].pi);
+    return sum;
+}
+
+static uint64_t plain_grid(int n) {
+    uint64_t sum = 0;
+    for (int i = 0; i < n; i++) sum += plain_density(readings[i].sigma, readings[i].tau, readings[i].pi);
+    return sum;
+}
+
+static uint64_t sqrt_grid(int n) {
+    uint64_t sum = 0;
+    for (int i = 0; i < n; i++) sum += sqrt_density(readings[i].sigma, readings[i].tau, readings[i].pi);
+    return sum;
+}
+
+static uint64_t double_grid(int n) {
+    double sum = 0;
+    for (int i = 0; i < n; i++) sum += double_density(readings[i].s, readings[i].t, readings[i].p);
+    return (uint64_t)sum;
+}
+
+static uint64_t library_needle(int n) {
+    int64_t out[3], sum = 0;
+    for (int i = 0; i + 1 < n; i += 2) {
+        const struct reading *l = &readings[i], *r = l + 1;
+        sum += warpsorrel_needle(1, l->salinity, l->temperature, l->pressure, 1, r->salinity, r->temperature, r->pressure, out) + out[2];
+    }
+    return (uint64_t)sum;
+}
+
+static uint64_t c_needle(int n) {
+    int64_t out[3], sum = 0;
+    for (int i = 0; i + 1 < n; i += 2) {
+        const struct reading *l = &readings[i], *r = l + 1;
+        sum += plain_needle(1, l->salinity, l->temperature, l->pressure, 1, r->salinity, r->temperature, r->pressure, out) + out[2];
+    }
+    return (uint64_t)sum;
+}
+
+static uint64_t library_page(int n) {
+    uint64_t sum = 0;
+    for (int i = 0; i < n; i++) sum += warpsorrel_page(stream, sizeof stream, page, sizeof page);
+    return sum;
+}
+
+static uint64_t c_page(int n) {
+    uint64_t sum = 0;
+    for (int i = 0; i < n; i++) sum += plain_page(stream, sizeof stream, page, sizeof page);
+    return sum;
+}
+
+static const struct work {
+    const char *what, *who;
+    uint64_t (*run)(int);
+    int many, few; /* readings or pages in a timed turn, in a counted one */
+    double answers; /* a turn's answers to a reading or page */
+    const char *unit;
+} works[] = {
+    {"reading", "library", library_grid, MOST, FEW, 1, "million"},    {"reading", "plain", plain_grid, MOST, FEW, 1, "million"},
+    {"reading", "plain-sqrt", sqrt_grid, MOST, FEW, 1, "million"},    {"reading", "double", double_grid, MOST, FEW, 1, "million"},
+    {"needle", "library", library_needle, MOST, FEW, 0.5, "million"}, {"needle", "plain", c_needle, MOST, FEW, 0.5, "million"},
+    {"page", "library", library_page, 2, 1, 1, "thousand"},           {"page", "plain", c_page, 2, 1, 1, "thousand"},
+};
+#define WORKS (int)(sizeof works / sizeof *works)
+
+static int same(int a, const char *b) {
+    return strcmp(works[a].what, b) == 0;
+}
+
+static void take(const char *what, const char *data) {
+    if (strcmp(what, "page") == 0) take_stream(data);
+    else take_readings(data);
+}
+
+/* ---- check */
+
+static int differs(const char *what, const char *data, int i) {
+    printf("differs: %s, %s data, number %d\n", what, data, i);
+    return 1;
+}
+
+static int check(void) {
+    for (int d = 0; d < 3; d++) {
+        take_readings(waters[d]);
+        for (int i = 0; i < MOST; i++) {
+            const struct reading *r = &readings[i], *l = &readings[(i + 1) % MOST];
+            uint32_t density = warpsorrel_density(r->sigma, r->tau, r->pi);
+            if (density != plain_density(r->sigma, r->tau, r->pi) || density != sqrt_density(r->sigma, r->tau, r->pi)) return differs("reading", waters[d], i);
+            double off = double_density(r->s, r->t, r->p) - density / 1000.0;
+            if (off > 0.0006 || off < -0.0006) return differs("reading in doubles", waters[d], i);
+            int64_t one[3], two[3];
+            uint32_t kind = (uint32_t)draw(4) + 1;
+            if (warpsorrel_needle(1, l->salinity, l->temperature, l->pressure, kind, r->salinity, r->temperature, r->pressure, one) !=
+                    plain_needle(1, l->salinity, l->temperature, l->pressure, kind, r->salinity, r->temperature, r->pressure, two) ||
+                memcmp(one, two, sizeof one) != 0)
+                return differs("needle", waters[d], i);
+        }
+        take_stream(streams[d]);
+        size_t n = warpsorrel_page(stream, sizeof stream, page, sizeof page);
+        if (n != plain_page(stream, sizeof stream, other_page, sizeof other_page) || memcmp(page, other_page, n) != 0) return differs("page", streams[d], 0);
+    }
+    printf("the library and plain C agree: %d readings, %d needles, 3 pages\n", 3 * MOST, 3 * MOST);
+    return 0;
+}
+
+/* ---- time */
+
+static double now(void) {
+    struct timespec t;
+    clock_gettime(CLOCK_MONOTONIC, &t);
+    return (double)t.tv_sec + 1e-9 * (double)t.tv_nsec;
+}
+
+static volatile uint64_t sink;
+
+/* Everyone has a turn in every round; the best turn counts. */
+static void time_all(int rounds) {
+    const char *const all[] = {"reading", "needle", "page"};
+    for (int a = 0; a < 3; a++) {
+        for (int d = 0; d < 3; d++) {
+            const char *data = a == 2 ? streams[d] : waters[d];
+            double best[WORKS];
+            take(all[a], data);
+            for (int i = 0; i < WORKS; i++) best[i] = 1e9;
+            for (int round = 0; round < rounds; round++) {
+                for (int i = 0; i < WORKS; i++) {
+                    if (!same(i, all[a])) continue;
+                    double start = now();
+                    sink += works[i].run(works[i].many);
+                    double took = now() - start;
+                    if (took < best[i]) best[i] = took;
+                }
+            }
+            for (int i = 0; i < WORKS; i++) {
+                if (!same(i, all[a])) continue;
+                double rate = works[i].many * works[i].answers / best[i];
+                printf("%s\t%s\t%s\t%.3f\t%s a second\n", all[a], data, works[i].who, rate / (works[i].unit[0] == 'm' ? 1e6 : 1e3), works[i].unit);
+            }
+        }
+    }
+}
+
+/* ---- once: the answers of the turn are printed, which is what a count is divided by */
+
+static int once(const char *what, const char *data, const char *who) {
+    for (int d = 0; d < 3; d++) {
+        if (strcmp(data, waters[d]) == 0) data = waters[d];
+        if (strcmp(data, streams[d]) == 0) data = streams[d];
+    }
+    for (int i = 0; i < WORKS; i++) {
+        if (!same(i, what) || strcmp(works[i].who, who) != 0) continue;
+        take(what, data);
+        sink = works[i].run(works[i].few);
+        printf("%.0f\n", works[i].few * works[i].answers);
+        return 0;
+    }
+    return 2;
+}
+
+int main(int argc, char **argv) {
+    if (argc == 2 && strcmp(argv[1], "check") == 0) return check();
+    if (argc == 3 && strcmp(argv[1], "time") == 0) return time_all(atoi(argv[2])), 0;
+    if (argc == 5 && strcmp(argv[1], "once") == 0) return once(argv[2], argv[3], argv[4]);
+    fprintf(stderr, "bench check | time ROUNDS | once WHAT DATA WHO\n");
+    return 2;
+}

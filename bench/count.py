@@ -1,0 +1,67 @@
+"""Instructions executed, by the emulator's log of a program that it runs one instruction at a time.
+
+count.py OBJDUMP MAP PROGRAM EMULATOR..: for each thing measured one line for each class of instruction: what, data, who, figure, class.
+Only the code of the one measured is counted: the places in memory that the linker's map gives for its file."""
+import collections
+import re
+import subprocess
+import sys
+
+objdump, map_path, program, *emulator = sys.argv[1:]
+
+WORK = [("reading", data, who) for data in ("uniform", "sea-like", "one-salinity") for who in ("library", "plain", "plain-sqrt", "double")]
+WORK += [("needle", data, who) for data in ("uniform", "sea-like", "one-salinity") for who in ("library", "plain")]
+WORK += [("page", data, who) for data in ("deep", "surface", "missing") for who in ("library", "plain")]
+FILES = {"library": "libwarpsorrel.a(", "plain": "plain.o", "plain-sqrt": "sqrt.o", "double": "double.o"}
+
+
+def places():
+    """Where each file's code stands: start and size, by who."""
+    text = re.sub(r"\n\s+(0x[0-9a-f]+\s+0x[0-9a-f]+ )", r" \1", open(map_path).read())
+    found = collections.defaultdict(list)
+    for start, size, path in re.findall(r"^ \.text\S*\s+0x([0-9a-f]+)\s+0x([0-9a-f]+) (\S+)$", text, re.M):
+        for who, name in FILES.items():
+            if (name in path if name.endswith("(") else path.split("/")[-1] == name) and int(size, 16) > 0:
+                found[who].append((int(start, 16), int(size, 16)))
+    return found
+
+
+def classes():
+    """What an instruction at a place is, where it is one of those told apart."""
+    names = {"mul": "multiplications", "imul": "multiplications", "mulx": "multiplications", "div": "divisions", "idiv": "divisions",
+             "divsd": "divisions", "sqrtsd": "roots", "mulsd": "multiplications", "mulpd": "multiplications"}
+    listing = subprocess.run([objdump, "-d", "--no-show-raw-insn", "-M", "intel", program], capture_output=True, text=True, check=True).stdout
+    found = {}
+    for place, name in re.findall(r"^ +([0-9a-f]+):\t([a-z0-9]+)", listing, re.M):
+        if name in names:
+            found[int(place, 16)] = names[name]
+        elif name[0] == "j" and name != "jmp":
+            found[int(place, 16)] = "conditional jumps"
+    return found
+
+
+def main():
+    code, kinds = places(), classes()
+    step = "-one-insn-per-tb" if "-one-insn-per-tb" in subprocess.run([*emulator, "-help"], capture_output=True, text=True).stdout else "-singlestep"
+    for what, data, who in WORK:
+        ranges = ",".join("0x%x+0x%x" % place for place in code[who])
+        # the emulator's log is standard error, the program's own line standard output
+        run = subprocess.Popen([*emulator, step, "-d", "nochain,exec", "-dfilter", ranges, program, "once", what, data, who],
+                               stdout=subprocess.PIPE, stderr=subprocess.PIPE)
+        counted = collections.Counter()
+        for line in run.stderr:
+            if line.startswith(b"Trace"):
+                counted[line.split(b"/", 2)[1]] += 1
+        answers = int(run.stdout.read())
+        if run.wait() != 0 or not counted:
+            sys.exit("count.py: no count for %s %s %s" % (what, data, who))
+        sums = collections.Counter({"instructions": 0, "multiplications": 0, "divisions": 0, "roots": 0, "conditional jumps": 0})
+        for place, times in counted.items():
+            sums["instructions"] += times
+            if kinds.get(int(place, 16)):
+                sums[kinds[int(place, 16)]] += times
+        for name, total in sums.items():
+            print(what, data, who, "%.2f" % (total / answers), name, sep="\t", flush=True)
+
+
+main()

@@ -1,0 +1,20 @@
+/* What the library is measured beside. */
+#ifndef PLAIN_H
+#define PLAIN_H
+
+#include <stddef.h>
+#include <stdint.h>
+
+/* plain.c: the same whole-number recipe, written in C as usual; with the root by the search that the recipe names. */
+uint32_t plain_density(int64_t sigma, int64_t tau, int64_t pi);
+uint32_t plain_needle(uint32_t left_kind, float left_salinity, float left_temperature, float left_pressure, uint32_t right_kind,
+                      float right_salinity, float right_temperature, float right_pressure, int64_t out[3]);
+size_t plain_page(const uint8_t *stream, size_t length, uint8_t *out, size_t room);
+
+/* The same file with the root taken by the processor's square root of a double. */
+uint32_t sqrt_density(int64_t sigma, int64_t tau, int64_t pi);
+
+/* double.c: the published formula in doubles; practical salinity, degrees C, bar; kg/m3. */
+double double_density(double salinity, double temperature, double pressure);
+
+#endif

@@ -1,0 +1,82 @@
+"""plot.py RESULTS PROCESSOR SVG: the results as tables on standard output and as a picture.
+
+A result is a line: what, data, who, figure, unit or class of instruction."""
+import sys
+
+WHO = {"library": ("the library", "#1b6ca8"), "plain": ("plain C", "#8a8a8a"), "plain-sqrt": ("plain C, processor's root", "#c4c4c4"), "double": ("doubles", "#e0a030")}
+
+
+def read(path):
+    """measure -> (what, data) -> who -> figure, in the file's order"""
+    found = {}
+    for line in open(path):
+        what, data, who, figure, unit = line.rstrip("\n").split("\t")
+        found.setdefault(unit, {}).setdefault((what, data), {})[who] = float(figure)
+    return found
+
+
+def shown(figure):
+    return "" if figure is None else f"{figure:,.0f}" if figure >= 100 else f"{figure:.2f}"
+
+
+def table(title, rows):
+    print(f"\n{title}\n")
+    print("| | data | " + " | ".join(name for name, _ in WHO.values()) + " | library ÷ plain C |")
+    print("|---|---|" + "---:|" * (len(WHO) + 1))
+    for (what, data), by in rows.items():
+        ratio = f"{by['library'] / by['plain']:.2f}" if by["plain"] else ""
+        print(f"| {what} | {data} | " + " | ".join(shown(by.get(who)) for who in WHO) + f" | {ratio} |")
+
+
+def panel(title, rows, top):
+    """A bar for each figure, as long as its ratio to plain C's."""
+    left, width, bar = 150, 430, 11
+    most = max(figure / by["plain"] for by in rows.values() for figure in by.values())
+    unit = width / most
+    parts = [f'<text x="12" y="{top + 16}" class="title">{title}</text>']
+    y = top + 28
+    start = y
+    for (what, data), by in rows.items():
+        parts.append(f'<text x="{left - 8}" y="{y + bar * len(by) / 2 + 4}" text-anchor="end">{what}, {data}</text>')
+        for who, figure in by.items():
+            ratio = figure / by["plain"]
+            parts.append(f'<rect x="{left}" y="{y}" width="{ratio * unit:.1f}" height="{bar - 1}" fill="{WHO[who][1]}"/>')
+            parts.append(f'<text x="{left + ratio * unit + 4:.1f}" y="{y + bar - 2}" class="small">{ratio:.2f}</text>')
+            y += bar
+        y += 8
+    parts.append(f'<line x1="{left + unit:.1f}" y1="{start - 4}" x2="{left + unit:.1f}" y2="{y - 4}" stroke="#404040" stroke-dasharray="2 3"/>')
+    return parts, y + 6
+
+
+def picture(panels, path):
+    parts, y = [], 8
+    x = 12
+    for name, colour in WHO.values():
+        parts.append(f'<rect x="{x}" y="{y}" width="11" height="11" fill="{colour}"/><text x="{x + 16}" y="{y + 10}">{name}</text>')
+        x += 30 + 7 * len(name)
+    y += 22
+    for title, rows in panels:
+        drawn, y = panel(title, rows, y)
+        parts += drawn
+    with open(path, "w") as out:
+        out.write(f'<svg xmlns="http://www.w3.org/2000/svg" width="640" height="{y}" viewBox="0 0 640 {y}">\n'
+                  "<style>text{font:12px sans-serif;fill:#202020}.small{font-size:9px}.title{font-weight:bold}</style>\n"
+                  '<rect width="100%" height="100%" fill="#ffffff"/>\n' + "\n".join(parts) + "\n</svg>\n")
+
+
+def main(results, processor, svg):
+    found = read(results)
+    panels = []
+    speeds = [unit for unit in found if unit.endswith("a second")]
+    for unit in speeds:
+        table(f"{unit[0].upper() + unit[1:]}, on {processor}:", found[unit])
+    if speeds:
+        panels.append((f"Speed on {processor}; plain C is 1, more is faster", {key: by for unit in speeds for key, by in found[unit].items()}))
+    for name in [u for u in found if not u.endswith("a second")]:
+        rows = {key: by for key, by in found[name].items() if name == "instructions" or key == ("reading", "uniform")}
+        table(f"{name[0].upper() + name[1:]} to one answer:", rows)
+    panels.append(("x86-64 instructions executed for one answer; plain C is 1, less is fewer", found["instructions"]))
+    picture(panels, svg)
+
+
+main(*sys.argv[1:])

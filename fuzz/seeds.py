@@ -1,0 +1,40 @@
+"""seeds.py FOLDER: the streams that the fuzzer starts from: document 01's example, each kind of record and each refusal of one."""
+import os
+import struct
+import sys
+
+
+def record(kind, body=b"", length=None):
+    return struct.pack("<HH", len(body) if length is None else length, kind) + body
+
+
+def deep(*floats):
+    return record(1, struct.pack("<3f", *floats))
+
+
+def surface(*floats):
+    return record(2, struct.pack("<2f", *floats))
+
+
+MISSING = record(3)
+SEEDS = {
+    "empty": b"",
+    "example": surface(0, 5) + surface(35, 5) + MISSING + surface(0, 5),
+    "deep": deep(35, 5, 1000) + deep(0, 25, 0),
+    "surface": surface(35, 25) + surface(0, 25),
+    "missing": MISSING + MISSING,
+    "not-a-number": deep(35, float("nan"), 10) + surface(float("inf"), 5),
+    "outside": deep(43, 5, 10) + deep(35, 41, 10) + deep(35, 5, 1001) + surface(-1, 5),
+    "ends": deep(42, -2, 0) + deep(0, 40, 1000),
+    "no-such-kind": record(4, b"abcd") + surface(35, 5),
+    "wrong-length": record(1, b"abcd") + record(3, b"a"),
+    "cut-head": surface(35, 5) + b"\x08\x00",
+    "cut-body": surface(35, 5) + record(1, b"abcd", 12),
+    "odd": surface(35, 5),
+}
+
+folder = sys.argv[1]
+os.makedirs(folder, exist_ok=True)
+for name, stream in SEEDS.items():
+    with open(os.path.join(folder, name), "wb") as out:
+        out.write(stream)
