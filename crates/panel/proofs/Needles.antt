@@ -1,11 +1,10 @@
 -- The needle: swapping two accepted channels turns its sign and keeps its size, it has a value exactly if both are accepted, and each
 -- channel depends on its own reading only. Assumes nothing.
-use Prim.Native.Nat.{ℕ, _+_}
+use Prim.Native.Nat.{ℕ}
 use mathlib.Core.Path.{_≡_, refl, ap}
 use native.Mathlib.Omega.{arith}
 use lib.IntN.{ℤ, pos, negℤ, natAbs, _-ℤ_}
 use Rattle.whole.proofs.Ints.{same, size-is, sub-is, neg-plus, neg-minus}
-use Rattle.refusals.specs.declared.Refusal.{Refusal}
 use Rattle.readings.specs.declared.Point.{Point}
 use Rattle.panel.specs.declared.Entry.{Entry}
 use Rattle.panel.specs.declared.Channel.{Channel}

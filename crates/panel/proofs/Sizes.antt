@@ -1,5 +1,5 @@
 -- What an accepted channel shows lies on the grid's numbers: it is small, and the recorder's float stands for it alone. Assumes nothing.
-use Prim.Native.Nat.{ℕ, _≤_, _<_}
+use Prim.Native.Nat.{ℕ}
 use mathlib.Core.Path.{_≡_, subst}
 use native.Mathlib.Omega.{arith}
 use lib.IntN.{pos}

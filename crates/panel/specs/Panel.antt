@@ -1,7 +1,6 @@
 -- Document 01, "Refusal numbers and their order" and "Needle": a channel from what stands in it, the needle from two channels.
 use Prim.Native.Nat.{ℕ, _+_, _<_}
 use lib.IntN.{ℤ, pos, _-ℤ_}
-use Rattle.refusals.specs.declared.Refusal.{Refusal}
 use Rattle.refusals.specs.Number.{numberOf}
 use Rattle.readings.specs.declared.Point.{Point}
 use Rattle.readings.specs.declared.Checked.{Checked}

@@ -1,23 +1,23 @@
 -- Demand 3 of what the public calls return: an accepted channel shows the recipe's numbers at a point of the grid, of which the
 -- promises speak. Assumes nothing.
-use Prim.Native.Nat.{ℕ, _≤_, _<_}
-use mathlib.Core.Path.{_≡_, sym, ap, ap₂, _∙_, subst}
+use Prim.Native.Nat.{ℕ, _≤_}
+use mathlib.Core.Path.{_≡_, sym, ap₂, _∙_, subst}
 use native.Mathlib.Omega.{arith}
 use lib.IntN.{ℤ, pos, _-ℤ_}
 use lib.Signed.{_≤ℤ_}
-use Rattle.whole.specs.Arith.{neg, plus}
-use Rattle.whole.specs.Fraction.{Frac, over, _⊖_}
+use Rattle.whole.specs.Arith.{plus}
+use Rattle.whole.specs.Fraction.{Frac}
 use Rattle.whole.proofs.Ints.{of-≤ℤ, above-plus}
-use Rattle.sea.specs.Recipe.{shownAt, modulusAt}
-use Rattle.sea.proofs.Answers.{Shown, OnTable}
+use Rattle.sea.specs.Recipe.{shownAt}
+use Rattle.sea.proofs.Answers.{Shown}
 use Rattle.sea.proofs.Grid.{natural}
 use Rattle.readings.specs.declared.Point.{Point}
 use Rattle.panel.specs.declared.Entry.{Entry}
 use Rattle.panel.specs.declared.Channel.{Channel}
 use Rattle.panel.specs.declared.Needle.{Needle}
-use Rattle.panel.specs.Panel.{channelOf, needleOf}
+use Rattle.panel.specs.Panel.{channelOf}
 use Rattle.panel.proofs.Sizes.{accepted-shows, accepted-table}
-use Rattle.promises.specs.Promises.{OnGrid, Sample, Within, Close}
+use Rattle.promises.specs.Promises.{OnGrid, Sample, Close}
 use Rattle.promises.proofs.Promises as promise
 use Rattle.pledges.specs.Pledges.{formulaAt, ShownWithin, StifferThanPressure, Saltier, Deeper, Reading, RightHeavier, LeftHeavier, NeedleWithin}
 

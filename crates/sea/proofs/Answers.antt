@@ -14,8 +14,8 @@ use Rattle.sea.specs.declared.Water.{Water}
 use Rattle.sea.specs.declared.Water.the-variants.{Known, Refused}
 use Rattle.sea.specs.declared.Range.{Range}
 use Rattle.sea.specs.declared.Range.the-variants.{Inside, Outside}
-use Rattle.sea.specs.Recipe.{bulk, bulkOf, shownOf, shownAt, modulusAt, parcelOf, parcelAt}
-use Rattle.sea.specs.Sizes.{Lies, Ranges}
+use Rattle.sea.specs.Recipe.{bulkOf, shownOf, shownAt, modulusAt, parcelOf, parcelAt}
+use Rattle.sea.specs.Sizes.{Lies}
 use Rattle.sea.specs.Water.{rangeOf, unless, waterOf}
 use Rattle.sea.proofs.Grid.{natural, inside-lies, parcel-ranges}
 

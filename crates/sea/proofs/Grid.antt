@@ -13,7 +13,7 @@ use mir.Syntax.{w64}
 use mir.Val.{SFits}
 use mir.ValLaws.{toZ-ofZ}
 use Rattle.whole.specs.Arith.{neg, plus, minus, scaled, rowValue}
-use Rattle.whole.proofs.Ints.{size-is, of-≤ℤ, below-minus, above-plus, neg-minus, pos-plus}
+use Rattle.whole.proofs.Ints.{size-is, of-≤ℤ, below-minus, above-plus, pos-plus}
 use Rattle.whole.proofs.Words.{word, fits-size, size-as}
 use Rattle.whole.proofs.Row.{pad, pad-row}
 use Rattle.whole.proofs.Roots.{root-is}

@@ -4,7 +4,7 @@ use Prim.Native.Nat.{ℕ}
 use mathlib.Core.Bool.{Bool, true, cond, false}
 use mathlib.Core.List.{List, [], _∷_}
 use lib.Dec.{T, eqb}
-use lib.IntN.{ℤ, pos}
+use lib.IntN.{pos}
 use Rattle.whole.specs.Arith.{scaled, rowValue, rootFrom, rootOf}
 use Rattle.sea.specs.Table.{Dw, Ds, Dr, Dss, Kw, Ks, Kr, Aw, As, Ar, Bw, Bs}
 use Rattle.sea.specs.Recipe.{rowsAt, rootAt, surface, K0, A, B, bulk, hundredths, mass, net, gain, density, shown, bulkOf, shownOf, shownAt, modulusAt}

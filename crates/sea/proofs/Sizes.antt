@@ -2,12 +2,10 @@
 -- turns it into a box at each row. What comes after them: each step c + scaled(h; x) has a box made of the boxes of c and h.
 -- Assumes nothing.
 use Prim.Native.Nat.{ℕ, zero, suc, _+_, _*_, _/_, _≤_, _<_}
-use mathlib.Core.Path.{_≡_, refl}
 use mathlib.Core.Bool.{Bool, true, false, cond}
 use mathlib.Core.List.{List, [], _∷_, map}
 use native.Mathlib.Omega.{arith}
 use native.Mathlib.Nat.{mul-le-mul, mul-le-mul-right, mul-le-mul-left, div-mul-le-self, le-div-iff-mul-le, lt-div-mul-add, le-of-lt}
-use native.Mathlib.Decide.{decLe}
 use lib.Dec.{T}
 use lib.IntN.{ℤ, pos, natAbs, _+ℤ_}
 use lib.ListN.{getD, drop}
@@ -16,18 +14,15 @@ use lib.Signed.{_≤ℤ_}
 use Rattle.whole.specs.Arith.{neg, plus, minus, scaled, rowValue, Root}
 use Rattle.whole.specs.Order.{Box, In}
 use Rattle.whole.proofs.Ints.{neg-minus, of-≤ℤ, below-minus, above-plus, no-minus, add-is, scaledN}
+use Rattle.whole.proofs.Roots.{root-below}
 use Rattle.whole.proofs.Row.{pad}
-use Rattle.whole.proofs.Interval.{Between, reach-down, reach-up, by, in-scaled, _⊞_, in-add, only, enclose, enclosed, within, in-wider, upto, in-size}
+use Rattle.whole.proofs.Interval.{both, Between, reach-down, reach-up, by, in-scaled, _⊞_, in-add, only, enclose, enclosed, within, in-wider, upto, in-size}
 use Rattle.sea.specs.declared.Rows.{Rows}
 use Rattle.sea.specs.Table.{Dw, Ds, Dr, Dss, Kw, Ks, Kr, Aw, As, Ar, Bw, Bs, table}
 use Rattle.sea.specs.Recipe.{rowsAt, surface, K0, A, B, bulk, bulkOf, mass, net, gain, density, shown, hundredths}
 use Rattle.sea.specs.Sizes.{Sizes, Small, Ranges, boxDw, boxDs, boxDr, boxDss, boxKw, boxKs, boxKr, boxAw, boxAs, boxAr, boxBw, boxBs}
 
 -- ---- a test that holds of every entry of a list holds of the i-th
-split : (a b : Bool) → T (cond a b false) → T a × T b
-split true b h = (tt, h)
-split false b h = absurd h
-
 module _ {X : Type 0} (test : X → Bool) where
   unfoldable pub every : List X → Bool
   every [] = true
@@ -36,8 +31,8 @@ module _ {X : Type 0} (test : X → Bool) where
   pub every-at : (xs : List X) → T (every xs) → (d : X) → T (test d) → (i : ℕ) → T (test (getD xs i d))
   unfolding every
   every-at [] h d k i = k
-  every-at (x ∷ xs) h d k zero = split (test x) (every xs) h .0
-  every-at (x ∷ xs) h d k (suc i) = every-at xs (split (test x) (every xs) h .1) d k i
+  every-at (x ∷ xs) h d k zero = both (test x) (every xs) h .0
+  every-at (x ∷ xs) h d k (suc i) = every-at xs (both (test x) (every xs) h .1) d k i
 
 -- ---- the rows, at the temperatures of the grid
 pub between : (n p : ℕ) (t : ℤ) → neg n ≤ℤ t → t ≤ℤ pos p → Between n p t
@@ -92,11 +87,7 @@ sizes τ h =
 
 -- ---- the steps after the rows
 pub root-small : (σ w : ℕ) → σ ≤ 42_000 → Root w (σ * 100_000) → w ≤ 64_807
-root-small σ w h r = go (decLe w 64_807)
-  where
-    go : Dec (w ≤ 64_807) → w ≤ 64_807
-    go (yes k) = k
-    go (no k) = let big : 64_808 ≤ w = omega arith in omega (arith, mul-le-mul big big, r .low)
+root-small σ w h r = root-below w 64_807 (σ * 100_000) r (omega arith)
 
 -- the box of c + scaled(h; x), for x up to X
 unfoldable pub step : ℕ → Box → Box → Box
@@ -360,10 +351,10 @@ module _ (τ : ℤ) (h : Between 2_000 40_000 τ) where
   step-small [] t k = rw drop-nil (unfold rowValue in omega arith)
   step-small (c ∷ cs) t zero =
       let b = enclose 2_000 40_000 (c ∷ cs) in
-      small b (split (within b (upto 46_000_000_000_000)) (steps-small cs) t .0) (enclosed 2_000 40_000 (c ∷ cs) τ h)
+      small b (both (within b (upto 46_000_000_000_000)) (steps-small cs) t .0) (enclosed 2_000 40_000 (c ∷ cs) τ h)
   step-small (c ∷ cs) t (suc k) =
       let b = enclose 2_000 40_000 (c ∷ cs) in
-      step-small cs (split (within b (upto 46_000_000_000_000)) (steps-small cs) t .1) k
+      step-small cs (both (within b (upto 46_000_000_000_000)) (steps-small cs) t .1) k
 
   -- of the twelve rows, each as six coefficients
   pub table-small : (i k : ℕ) → natAbs (rowValue (drop k (getD (map (pad 6) table) i [])) τ) ≤ 46_000_000_000_000

@@ -8,8 +8,8 @@ use native.Mathlib.Nat.{mul-le-mul}
 use lib.Dec.{T, leb, leb→le}
 use lib.IntN.{ℤ, pos, negsuc, negℤ, natAbs, _+ℤ_}
 use Rattle.whole.specs.Arith.{plus, minus, scaled, rowValue}
-use Rattle.whole.specs.Order.{_≼_, Box, In}
-use Rattle.whole.proofs.Ints.{size-is, neg-plus, neg-minus, scaled-is, below-minus, above-plus, trans, add-mono}
+use Rattle.whole.specs.Order.{Box, In}
+use Rattle.whole.proofs.Ints.{neg-plus, neg-minus, scaled-is, below-minus, above-plus, trans, add-mono}
 
 infixl 6 _⊞_
 -- t is from −n to p
@@ -74,7 +74,7 @@ enclosed n p (c ∷ cs) t w = in-add (in-only c) (in-scaled (enclosed n p cs t w
 unfoldable pub within : Box → Box → Bool
 within a b = cond (leb (plus (b .lo) + minus (a .lo)) (plus (a .lo) + minus (b .lo))) (leb (plus (a .hi) + minus (b .hi)) (plus (b .hi) + minus (a .hi))) false
 
-both : (a b : Bool) → T (cond a b false) → T a × T b
+pub both : (a b : Bool) → T (cond a b false) → T a × T b
 both true b h = (tt, h)
 both false b h = absurd h
 

@@ -1,7 +1,7 @@
 -- ℤ as omega reads it: z is plus z − minus z, an order or an equation of whole numbers is one of these naturals, and the
 -- sum, the product, the difference, the quotient rounded down and the scaled product are each given by such facts. Assumes nothing.
 use Prim.Native.Nat.{ℕ, zero, suc, _+_, _*_, _-_, _/_, _≤_, _<_}
-use mathlib.Core.Path.{_≡_, refl, sym, ap, subst}
+use mathlib.Core.Path.{_≡_, refl, ap}
 use mathlib.Core.Bool.{Bool, true, false, not, cond}
 use native.Mathlib.Omega.{arith}
 use native.Mathlib.Nat.{div-add-mod, mod-lt}

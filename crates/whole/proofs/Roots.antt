@@ -1,6 +1,6 @@
 -- The root by trial bits is the greatest whole number whose square is at most n, and the only one. `Trial n k w` says that the bits
 -- from place k on are settled: w is at most the root, and the root is below w + 2ᵏ. Assumes nothing.
-use mathlib.Core.Path.{_≡_, refl, sym, ap, _∙_, subst}
+use mathlib.Core.Path.{_≡_, sym, ap, _∙_, subst}
 use mathlib.Core.Bool.{Bool, true, false, not, cond}
 use Prim.Native.Nat.{ℕ, zero, suc, _+_, _*_, _-_, _/_, _^_, _<_, _≤_}
 use native.Mathlib.Omega.{arith}

@@ -1,7 +1,7 @@
 -- A row's value: a row of one coefficient is that coefficient, noughts at the top change nothing, and one place lower is one
 -- step of the recipe. Assumes nothing.
 use mathlib.Core.Path.{_≡_, refl, sym, ap}
-use mathlib.Core.List.{List, [], _∷_, map}
+use mathlib.Core.List.{List, [], _∷_}
 use Prim.Native.Nat.{ℕ, zero, suc, _-_, _<_, _≤_}
 use native.Mathlib.Omega.{arith}
 use lib.IntN.{ℤ, pos, _+ℤ_, zero-*ℤ, +ℤ-idr}

@@ -1,5 +1,5 @@
 -- Where whole numbers lie: for the contracts of private functions, and for the laws.
-use Prim.Native.Nat.{ℕ, _+_, _≤_}
+use Prim.Native.Nat.{_+_, _≤_}
 use lib.IntN.{ℤ}
 use Rattle.whole.specs.Arith.{plus, minus}
 

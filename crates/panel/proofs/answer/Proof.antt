@@ -1,10 +1,6 @@
 -- `panel::answer` meets its contract: each arm is the definition's case. Assumes nothing.
-use mathlib.Core.Path.{_≡_, sym, ap, _∙_}
+use mathlib.Core.Path.{sym, ap, _∙_}
 use borrow.Author.Needs.{needs}
-use Rattle.readings.specs.declared.Checked.{Checked}
-use Rattle.panel.specs.declared.Entry.{Entry}
-use Rattle.panel.specs.declared.Channel.{Channel}
-use Rattle.readings.specs.Check.{checkedOf}
 use Rattle.panel.specs.Panel.{checkedChannel, channelOf}
 use Rattle.panel.proofs.answer.Statement.{statement}
 use Rattle.panel.proofs.answer.Tie as tie

@@ -1,7 +1,6 @@
 -- `panel::paired` meets its contract: each channel is its own entry's answer. Assumes nothing.
-use mathlib.Core.Path.{_≡_, ap₂, _∙_}
 use borrow.Author.Needs.{needs}
-use Rattle.panel.specs.Panel.{needleOf, pairOf}
+use Rattle.panel.specs.Panel.{pairOf}
 use Rattle.panel.proofs.paired.Statement.{statement}
 use Rattle.panel.proofs.paired.Tie as tie
 

@@ -1,10 +1,10 @@
 -- `sea::bulk` meets its contract: two steps, each small by what it asks for. Assumes nothing.
 use mathlib.Core.Path.{_≡_, ap, _∙_}
 use borrow.Author.Needs.{needs}
-use lib.IntN.{ℤ, pos, _+ℤ_}
+use lib.IntN.{ℤ, _+ℤ_}
 use mir.Syntax.{w64}
 use mir.ValLaws.{toZ-ofZ}
-use Rattle.whole.specs.Arith.{plus, scaled}
+use Rattle.whole.specs.Arith.{scaled}
 use Rattle.whole.proofs.Words.{word, given, size-as, step-as}
 use Rattle.sea.specs.Recipe.{bulk}
 use Rattle.sea.proofs.Grid.{small-word, small-kept}

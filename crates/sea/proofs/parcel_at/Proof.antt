@@ -1,5 +1,5 @@
 -- `sea::parcel_at` meets its contract: the root is the recipe's, and at most 64,807. Assumes nothing.
-use mathlib.Core.Path.{_≡_, refl, sym, ap, _∙_, subst}
+use mathlib.Core.Path.{_≡_, sym, ap, _∙_, subst}
 use Prim.Native.Nat.{ℕ, _*_, _≤_}
 use native.Mathlib.Omega.{arith}
 use borrow.Author.Needs.{needs}
@@ -11,8 +11,7 @@ use mir.ValLaws.{toZ-ofZ}
 use Rattle.whole.specs.Arith.{plus, rootOf}
 use Rattle.whole.proofs.Roots.{root-is}
 use Rattle.whole.proofs.Words.{word, given}
-use Rattle.sea.specs.declared.Rows.{Rows}
-use Rattle.sea.specs.Recipe.{rowsAt, rootAt, parcelOf, parcelAt}
+use Rattle.sea.specs.Recipe.{rowsAt, rootAt, parcelAt}
 use Rattle.sea.specs.Sizes.{Lies, Sizes}
 use Rattle.sea.proofs.Sizes.{between, sizes, root-small}
 use Rattle.sea.proofs.Grid.{natural, lies-word}

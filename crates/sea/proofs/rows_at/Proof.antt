@@ -2,8 +2,6 @@
 use mathlib.Core.Path.{_≡_, _∙_}
 use borrow.Author.Needs.{needs}
 use lib.IntN.{ℤ}
-use lib.ListN.{getD}
-use mathlib.Core.List.{[]}
 use Rattle.whole.specs.Arith.{rowValue}
 use Rattle.whole.proofs.Words.{word, given}
 use Rattle.sea.specs.declared.Rows.{Rows}

@@ -7,7 +7,7 @@ use Rattle.whole.specs.Arith.{plus, scaled}
 use Rattle.whole.proofs.Words.{word, given, size-as, step-as}
 use Rattle.sea.specs.Recipe.{surface}
 use Rattle.sea.proofs.Sizes.{Fits, fits, rows-fit, Rows-fit}
-use Rattle.sea.proofs.Grid.{small-word, small-kept, Natural, natural, natural-word}
+use Rattle.sea.proofs.Grid.{small-word, small-kept, natural, natural-word}
 use Rattle.sea.proofs.surface.Statement.{statement}
 use Rattle.sea.proofs.surface.Tie as tie
 

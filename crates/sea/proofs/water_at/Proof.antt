@@ -1,20 +1,17 @@
 -- `sea::water_at` meets its contract: the first check that fails is the answer, and a reading that passes all is on the grid. Assumes nothing.
-use mathlib.Core.Path.{_≡_, refl, sym, ap, _∙_, subst}
+use mathlib.Core.Path.{_≡_, refl, _∙_}
 use Prim.Native.Nat.{ℕ}
 use borrow.Author.Needs.{needs}
 use lib.IntN.{ℤ, pos}
 use mir.Syntax.{w64}
 use mir.ValLaws.{toZ-ofZ}
 use Rattle.whole.specs.Arith.{neg, plus}
-use Rattle.whole.proofs.Words.{word}
 use Rattle.refusals.specs.declared.Refusal.the-variants.{Salinity, Temperature, Pressure}
-use Rattle.sea.specs.declared.Water.{Water}
 use Rattle.sea.specs.declared.Water.the-variants.{Known}
-use Rattle.sea.specs.declared.Parcel.{Parcel}
 use Rattle.sea.specs.declared.Range.{Range}
-use Rattle.sea.specs.declared.Range.the-variants.{Inside, Outside}
+use Rattle.sea.specs.declared.Range.the-variants.{Inside}
 use Rattle.sea.specs.Recipe.{bulk, shown, hundredths, bulkOf, shownOf, shownAt, modulusAt, parcelOf, parcelAt}
-use Rattle.sea.specs.Sizes.{Lies, Stiff, Ranges}
+use Rattle.sea.specs.Sizes.{Lies}
 use Rattle.sea.specs.Water.{rangeOf, unless, waterOf}
 use Rattle.sea.proofs.Grid.{natural, lies-word, inside-lies, range-is, parcel-stiff, parcel-ranges}
 use Rattle.sea.proofs.water_at.Statement.{statement}

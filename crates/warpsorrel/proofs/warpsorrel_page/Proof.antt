@@ -1,6 +1,6 @@
 -- `warpsorrel_page` meets its contract: the count is the one that `lines::write_page` answers, 0 if refused. Assumes nothing.
 use Prim.Native.Nat.{ℕ}
-use mathlib.Core.Path.{_≡_, sym, ap, _∙_}
+use mathlib.Core.Path.{sym, ap, _∙_}
 use borrow.Author.Needs.{needs}
 use Rattle.lines.specs.Line.{written}
 use Rattle.lines.specs.Page.{pageOf, filledCount}

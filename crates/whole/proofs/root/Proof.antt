@@ -1,5 +1,5 @@
 -- `whole::root` meets its contract. The invariant is `Shifted`, the measure the trial bit's square. Assumes nothing.
-use Prim.Native.Nat.{_≤_, _<_, _*_, _-_, _+_, _%_, _^_, _/_}
+use Prim.Native.Nat.{_<_, _-_, _^_}
 use native.Mathlib.Omega.{arith}
 use lib.Count.{leading-le}
 use Rattle.whole.proofs.Roots.{root-is, root-only}
