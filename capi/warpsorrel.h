@@ -1,4 +1,5 @@
-/* The panel's C ABI. Every function answers every argument; nothing has to be checked first. Built by ./build (see README). */
+/* The panel's C ABI: link target/staticlib/libwarpsorrel.a, which `rt staticlib warpsorrel` writes. Every function answers every number
+ * and every stream of bytes; nothing has to be checked first. A pointer points to as many numbers or bytes as its declaration says. */
 #ifndef WARPSORREL_H
 #define WARPSORREL_H
 
