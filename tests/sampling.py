@@ -102,8 +102,8 @@ PRINTED = [
     (35, 25, 0, "23726.34949", "1023.34306"),
     (35, 25, 1000, "27108.94504", "1062.53817"),
 ]
-# UNESCO 44 prints this one for its routine, which goes by the specific volume anomaly with shorter constants of its own. The
-# formula gives 1059.8203768, so one unit of the last place is left open.
+# This printed value is not the formula's own, which is 1059.8203768 and would be printed 1059.82038. Why is not in the sources at hand
+# (a routine with shorter constants would explain it), so one unit of the last place is left open.
 BY_ROUTINE = (40, 40, 1000, "1059.82037")
 
 
