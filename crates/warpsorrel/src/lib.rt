@@ -7,9 +7,9 @@ ghost use Rattle.sea.specs.Water as sea;
 ghost use Rattle.panel.specs.Panel as panel;
 ghost use Rattle.records.specs.Records.{pairs};
 ghost use Rattle.lines.specs.Line.{written};
-ghost use Rattle.lines.specs.Page.{pageOf, filledOf, filledCount};
+ghost use Rattle.pages.specs.Page.{pageOf, filledOf, filledCount};
 ghost use Rattle.warpsorrel.specs.Abi.{entryOf, channelWords, pairWords};
-use lines::Filled;
+use pages::Filled;
 use panel::Channel;
 use panel::Entry;
 use readings::Report;
@@ -152,7 +152,7 @@ pub extern "C" fn warpsorrel_page(stream: &[u8], out: &mut [u8]) -> usize
     ensures { λ r. ⌜ r ≡ filledCount (filledOf (length (now (out .entry))) (now (stream .entry))) ⌝ }
     ensures { λ r. ⌜ now (out .exit) ≡ written r (pageOf (now (stream .entry))) (now (out .entry)) ⌝ }
 {
-    let filled = lines::write_page(stream, out);
+    let filled = pages::write_page(stream, out);
     match filled {
         Filled::Page(count) => count,
         Filled::Refused(_) => 0,

@@ -1,9 +1,9 @@
--- `warpsorrel_page` meets its contract: the count is the one that `lines::write_page` answers, 0 if refused. Assumes nothing.
+-- `warpsorrel_page` meets its contract: the count is the one that `pages::write_page` answers, 0 if refused. Assumes nothing.
 use Prim.Native.Nat.{ℕ}
 use mathlib.Core.Path.{sym, ap, _∙_}
 use borrow.Author.Needs.{needs}
 use Rattle.lines.specs.Line.{written}
-use Rattle.lines.specs.Page.{pageOf, filledCount}
+use Rattle.pages.specs.Page.{pageOf, filledCount}
 use Rattle.warpsorrel.proofs.warpsorrel_page.Statement.{statement}
 use Rattle.warpsorrel.proofs.warpsorrel_page.Tie as tie
 
