@@ -7,8 +7,8 @@ use Rattle.sea.specs.Table.{Dw, Ds, Dr, Dss, Kw, Ks, Kr, Aw, As, Ar, Bw, Bs}
 use Rattle.sea.specs.Recipe.{rowsAt, rootAt, surface, K0, A, B, bulk, hundredths, mass, net, gain, density, shown, bulkOf, shownOf, shownAt, modulusAt}
 use Rattle.sea.specs.Water.{rangeOf, waterOf}
 use Rattle.refusals.specs.declared.Refusal.{Refusal}
-use Rattle.readings.specs.Bytes.{floatOf}
-use Rattle.readings.specs.Grid.{inside, gridNo, placeOf}
+use Rattle.floats.specs.Bytes.{floatOf}
+use Rattle.floats.specs.Grid.{inside, gridNo, placeOf}
 use Rattle.readings.specs.Check.{placedOf, checkedOf}
 use Rattle.readings.specs.declared.Report.{Report}
 use Rattle.panel.specs.declared.Entry.{Entry}

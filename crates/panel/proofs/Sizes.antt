@@ -3,10 +3,10 @@ use Prim.Native.Nat.{ℕ}
 use mathlib.Core.Path.{_≡_, subst}
 use native.Mathlib.Omega.{arith}
 use lib.IntN.{pos}
+use Rattle.floats.specs.Grid.{gridNo}
+use Rattle.floats.specs.Recorder.{recorderOf}
+use Rattle.floats.proofs.Quotient.{recorder-back}
 use Rattle.readings.specs.declared.Point.{Point}
-use Rattle.readings.specs.Grid.{gridNo}
-use Rattle.readings.specs.Recorder.{recorderOf}
-use Rattle.readings.proofs.Quotient.{recorder-back}
 use Rattle.sea.proofs.Answers.{OnTable, Shown, known-is-on-table, known-shows}
 use Rattle.panel.specs.declared.Entry.{Entry}
 use Rattle.panel.specs.declared.Channel.{Channel}

@@ -1,6 +1,6 @@
 // A channel from what stands in it, and the needle from two channels.
 ghost use mathlib.Core.Path.{_≡_};
-ghost use Rattle.readings.specs.Recorder.{recorderOf};
+ghost use Rattle.floats.specs.Recorder.{recorderOf};
 ghost use Rattle.panel.specs.Panel.{numberIn, densityIn, bulkIn, needleNumber, needleValue, wateredOf, channelOf, needleOf, pairOf};
 use readings::Checked;
 use readings::Point;
@@ -78,7 +78,7 @@ impl Channel {
     pub fn recorder(self) -> f32
         ensures { λ r. ⌜ r ≡ recorderOf (densityIn self) ⌝ }
     {
-        readings::recorder(self.density())
+        floats::recorder(self.density())
     }
 }
 

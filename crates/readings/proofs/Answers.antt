@@ -6,17 +6,17 @@ use lib.Dec.{T}
 use lib.Signed.{_≤ℤ_}
 use lib.Ieee.{Float}
 use Rattle.refusals.specs.declared.Refusal.{Refusal}
-use Rattle.readings.specs.Grid.{Range, inside, gridNo, placeOf}
+use Rattle.floats.specs.Grid.{Range, inside, gridNo, placeOf}
+use Rattle.floats.specs.declared.Place.{Place}
+use Rattle.floats.proofs.Within.{grid-within}
 use Rattle.readings.specs.Check.{salinities, temperatures, pressures, deepOf, surfaceOf, givenOf, allFinite, firstOutside, placedOf, inOrder, checkedOf}
 use Rattle.readings.specs.Answers.{OnGrid, Usable, Reason, missing, not-finite, salinity, temperature, pressure, Answered, taken, refused}
 use Rattle.readings.specs.declared.Report.{Report}
 use Rattle.readings.specs.declared.Reading.{Reading}
 use Rattle.readings.specs.declared.Point.{Point}
-use Rattle.readings.specs.declared.Place.{Place}
 use Rattle.readings.specs.declared.Given.{Given}
 use Rattle.readings.specs.declared.Finite.{Finite}
 use Rattle.readings.specs.declared.Checked.{Checked}
-use Rattle.readings.proofs.Within.{grid-within}
 
 within : (q : Range) (x : Float) → inside q x ≡ true → (q .low ≤ℤ gridNo (q .steps) x) × (gridNo (q .steps) x ≤ℤ q .high)
 within q x e = grid-within q x (subst T (sym e) tt)

@@ -1,9 +1,2 @@
-mod Signs
-mod Halves
-mod Exactly
-mod Rounded
-mod Inside
-pub mod Within
 pub mod Answers
-pub mod Quotient
 pub mod Samples

@@ -6,7 +6,7 @@ use lib.IntN.{ℤ, pos}
 use lib.Ieee.{binary32, ofBits}
 use Rattle.whole.specs.Arith.{neg}
 use Rattle.refusals.specs.declared.Refusal.{Refusal}
-use Rattle.readings.specs.Grid.{inside, gridNo, placeOf}
+use Rattle.floats.specs.Grid.{inside, gridNo, placeOf}
 use Rattle.readings.specs.Check.{placedOf, checkedOf}
 use Rattle.readings.specs.declared.Report.{Report}
 use Rattle.readings.specs.declared.Checked.{Checked}

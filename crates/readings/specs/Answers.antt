@@ -5,7 +5,7 @@ use lib.IntN.{pos}
 use lib.Signed.{_≤ℤ_}
 use Rattle.whole.specs.Arith.{neg}
 use Rattle.refusals.specs.declared.Refusal.{Refusal}
-use Rattle.readings.specs.Grid.{inside}
+use Rattle.floats.specs.Grid.{inside}
 use Rattle.readings.specs.Check.{salinities, temperatures, pressures, givenOf, allFinite}
 use Rattle.readings.specs.declared.Report.{Report}
 use Rattle.readings.specs.declared.Reading.{Reading}

@@ -4,10 +4,10 @@ use lib.IntN.{pos}
 use lib.Ieee.{Float, fin}
 use Rattle.whole.specs.Arith.{neg}
 use Rattle.refusals.specs.declared.Refusal.{Refusal}
-use Rattle.readings.specs.Grid.{Range, range, finite, placeOf}
+use Rattle.floats.specs.Grid.{Range, range, finite, placeOf}
+use Rattle.floats.specs.declared.Place.{Place}
 use Rattle.readings.specs.declared.Report.{Report}
 use Rattle.readings.specs.declared.Reading.{Reading}
-use Rattle.readings.specs.declared.Place.{Place}
 use Rattle.readings.specs.declared.Given.{Given}
 use Rattle.readings.specs.declared.Finite.{Finite}
 use Rattle.readings.specs.declared.Checked.{Checked}

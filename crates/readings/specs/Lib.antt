@@ -1,6 +1,2 @@
-pub mod Grid
-pub mod Rounding
 pub mod Check
-pub mod Recorder
-pub mod Bytes
 pub mod Answers

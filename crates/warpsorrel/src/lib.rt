@@ -2,7 +2,7 @@
 ghost use mathlib.Core.Path.{_≡_};
 ghost use lib.ListN.{length};
 ghost use lib.Seq.{sets};
-ghost use Rattle.readings.specs.Recorder.{recorderOf};
+ghost use Rattle.floats.specs.Recorder.{recorderOf};
 ghost use Rattle.sea.specs.Water as sea;
 ghost use Rattle.panel.specs.Panel as panel;
 ghost use Rattle.records.specs.Records.{pairs};
@@ -133,7 +133,7 @@ pub extern "C" fn warpsorrel_needle(
 pub extern "C" fn warpsorrel_recorder(shown: u32) -> f32
     ensures { λ r. ⌜ r ≡ recorderOf shown ⌝ }
 {
-    readings::recorder(shown)
+    floats::recorder(shown)
 }
 
 // ---- streams of records

@@ -5,7 +5,7 @@ use mathlib.Core.Path.{_≡_, refl, sym, _∙_, ap}
 use mathlib.Core.Bool.{Bool, true, false, _&&_}
 use Prim.Native.Nat.{ℕ}
 use native.Mathlib.Omega.{arith}
-use Rattle.readings.specs.Grid.{finite}
+use Rattle.floats.specs.Grid.{finite}
 use Rattle.readings.specs.Check.{yesNo, allFinite, finiteOf, givenOf, inOrder, checkedOf}
 use Rattle.readings.specs.declared.Report.{Report}
 use Rattle.readings.specs.declared.Reading.{Reading}

@@ -1,7 +1,7 @@
 -- `panel::Channel::recorder` meets its contract: it hands on the density. Assumes nothing.
 use mathlib.Core.Path.{ap, _∙_}
 use borrow.Author.Needs.{needs}
-use Rattle.readings.specs.Recorder.{recorderOf}
+use Rattle.floats.specs.Recorder.{recorderOf}
 use Rattle.panel.proofs.Channel.recorder.Statement.{statement}
 use Rattle.panel.proofs.Channel.recorder.Tie as tie
 

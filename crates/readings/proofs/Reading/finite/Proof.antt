@@ -4,7 +4,7 @@ use borrow.Author.Needs.{needs}
 use mathlib.Core.Path.{_≡_, refl, sym, _∙_}
 use mathlib.Core.Logic.{⊎-elim}
 use mathlib.Core.Bool.{Bool, _&&_}
-use Rattle.readings.specs.Grid.{finite}
+use Rattle.floats.specs.Grid.{finite}
 use Rattle.readings.specs.Check.{yesNo, finiteOf}
 use Rattle.readings.specs.declared.Reading.{Reading}
 use Rattle.readings.proofs.Reading.finite.Statement.{statement}

@@ -3,10 +3,10 @@
 use borrow.Author.Needs.{needs}
 use mathlib.Core.Path.{_≡_, refl, sym, _∙_}
 use lib.IntN.{ℤ}
-use Rattle.readings.specs.Grid.{placeOf}
+use Rattle.floats.specs.Grid.{placeOf}
+use Rattle.floats.specs.declared.Place.{Place}
 use Rattle.readings.specs.Check.{salinities, temperatures, pressures, firstOutside, placedOf}
 use Rattle.readings.specs.declared.Reading.{Reading}
-use Rattle.readings.specs.declared.Place.{Place}
 use Rattle.readings.specs.declared.Checked.{Checked}
 use Rattle.readings.proofs.Reading.placed.Statement.{statement}
 use Rattle.readings.proofs.Reading.placed.Tie as tie

@@ -3,9 +3,9 @@ use mathlib.Core.Path.{_≡_, sym, _∙_, subst}
 use Prim.Native.Nat.{ℕ, _/_, _<_, _^_}
 use native.Mathlib.Omega.{arith}
 use lib.Ieee.Positive.{num, den}
-use Rattle.readings.proofs.Rounded.{part-asks, part-lt, part-is, in-f64, up-one, up-none}
-use Rattle.readings.proofs.grid.rounded_up.Statement.{statement}
-use Rattle.readings.proofs.grid.rounded_up.Tie as tie
+use Rattle.floats.proofs.Rounded.{part-asks, part-lt, part-is, in-f64, up-one, up-none}
+use Rattle.floats.proofs.grid.rounded_up.Statement.{statement}
+use Rattle.floats.proofs.grid.rounded_up.Tie as tie
 
 part : (c : tie.After-truncating-f64-to-u64) → c .truncating-f64-to-u64 .result ≡ num (c .before .args .z) / den (c .before .args .z)
 part c = c .truncating-f64-to-u64 .ensures ∙ part-is (c .before .args .z) (c .before .pre)

@@ -7,8 +7,8 @@ use lib.Dec.{T, ltb, lt→ltb}
 use lib.Arith.{le→nltb}
 use lib.Ieee.{Float, nan, inf, fin, binary32, isNan, nanBits, div, ofBits}
 use lib.Ieee.Bits.{nanBits-is, nanBits-above, is-true}
-use Rattle.readings.proofs.float_of.Statement.{statement}
-use Rattle.readings.proofs.float_of.Tie as tie
+use Rattle.floats.proofs.float_of.Statement.{statement}
+use Rattle.floats.proofs.float_of.Tie as tie
 
 is-nan : (x : Float) → isNan x ≡ true → nan ≡ x
 unfolding isNan

@@ -8,7 +8,7 @@ use lib.IntN.{ℤ, pos, negsuc, negℤ, natAbs, _*ℤ_}
 use lib.Signed.{leZ}
 use lib.Dec.{T, leb, leb→le, le→leb}
 use lib.Arith.{le-zero}
-use Rattle.readings.specs.Grid.{signed}
+use Rattle.floats.specs.Grid.{signed}
 
 -- two tests that follow from each other are equal
 pub same : (a b : Bool) → (T a → T b) → (T b → T a) → a ≡ b

@@ -5,7 +5,7 @@ use lib.IntN.{ℤ, pos, negℤ, _+ℤ_, _*ℤ_}
 use lib.Signed.{leZ}
 use lib.Ieee.{Float, nan, inf, fin, up, down}
 use Rattle.whole.specs.Arith.{floorDiv}
-use Rattle.readings.specs.declared.Place.{Place}
+use Rattle.floats.specs.declared.Place.{Place}
 
 -- neither a NaN nor an infinity
 abbrev pub finite : Float → Bool

@@ -2,9 +2,9 @@
 use mathlib.Core.Path.{_≡_, refl, sym}
 use mathlib.Core.Bool.{true, false}
 use lib.Ieee.{Float, nan, inf, fin, lt, neg, div, ofBits}
-use Rattle.readings.specs.Grid.{finite}
-use Rattle.readings.proofs.grid.is_finite.Statement.{statement}
-use Rattle.readings.proofs.grid.is_finite.Tie as tie
+use Rattle.floats.specs.Grid.{finite}
+use Rattle.floats.proofs.grid.is_finite.Statement.{statement}
+use Rattle.floats.proofs.grid.is_finite.Tie as tie
 
 below : (x : Float) → lt (inf true) x ≡ true → lt x (inf false) ≡ finite x
 unfolding lt

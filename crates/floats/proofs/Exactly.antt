@@ -14,7 +14,7 @@ use lib.Ieee.Positive.{num, den}
 use lib.Ieee.Exact.{HasValue, round-exact}
 use lib.Ieee.Back.{round-whole}
 use lib.Ieee.Scale.{round-same}
-use Rattle.readings.specs.Grid.{finite}
+use Rattle.floats.specs.Grid.{finite}
 
 -- ---- what fitting an f32 says of a number
 record Held (m : ℕ) (e : ℤ) : Type 0 where

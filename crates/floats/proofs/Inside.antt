@@ -13,10 +13,10 @@ use lib.Ieee.{Float, nan, inf, fin, binary32, binary64, up, down, unlike, round,
 use lib.Ieee.Fits.{and-l, and-r, and-i, eq→eqb, down-pos}
 use lib.Ieee.Exact.{HasValue}
 use lib.Ieee.Back.{round-whole}
-use Rattle.readings.specs.Grid.{Range, finite, signed, inside}
-use Rattle.readings.specs.Rounding.{near}
-use Rattle.readings.proofs.Signs.{same, signed-times, minus?, signed-own-times, Le, le-to, le-from, le-times, le-cancel}
-use Rattle.readings.proofs.Exactly.{times, times-value}
+use Rattle.floats.specs.Grid.{Range, finite, signed, inside}
+use Rattle.floats.specs.Rounding.{near}
+use Rattle.floats.proofs.Signs.{same, signed-times, minus?, signed-own-times, Le, le-to, le-from, le-times, le-cancel}
+use Rattle.floats.proofs.Exactly.{times, times-value}
 
 -- a range whose ends and steps the code can hold, and whose products are exact
 pub record Narrow (r : Range) : Type 0 where

@@ -2,12 +2,12 @@
 ghost use mathlib.Core.Path.{_≡_};
 ghost use Prim.Native.Nat.{_^_, _≤_};
 ghost use lib.Dec.{T};
-ghost use Rattle.readings.specs.Grid.{finite, gridNo, placeOf, range};
-ghost use Rattle.readings.specs.Rounding.{small, near, RoundedUp};
+ghost use Rattle.floats.specs.Grid.{finite, gridNo, placeOf, range};
+ghost use Rattle.floats.specs.Rounding.{small, near, RoundedUp};
 use crate::Place;
 
 // Neither a NaN nor an infinity.
-pub(crate) fn is_finite(x: f32) -> bool
+pub fn is_finite(x: f32) -> bool
     ensures { λ r. ⌜ r ≡ finite x ⌝ }
 {
     let infinity = 1.0f32 / 0.0f32;
@@ -38,7 +38,7 @@ fn nearest(x: f32, k: u32) -> i64
 }
 
 // The place of x, if the exact product is from lo to hi, ends included. A NaN fails both tests.
-pub(crate) fn place(x: f32, lo: i32, hi: i32, k: u32) -> Place
+pub fn place(x: f32, lo: i32, hi: i32, k: u32) -> Place
     requires { ⌜ k ≤ 2 ^ 20 ⌝ }
     ensures { λ r. ⌜ r ≡ placeOf (range lo hi k) x ⌝ }
 {

@@ -10,10 +10,10 @@ use lib.Signed.{_≤ℤ_, leZ-yes}
 use lib.Dec.{T}
 use lib.Ieee.{Float, nan, inf, fin, up, down}
 use lib.Ieee.Fits.{down-pos}
-use Rattle.readings.specs.Grid.{Range, signed, inside, gridNo}
-use Rattle.readings.proofs.Signs.{minus?, signed-own, Le, le-to, no-factor}
-use Rattle.readings.proofs.Halves.{twice, twice-next, half-down}
-use Rattle.readings.proofs.Inside.{inside-le}
+use Rattle.floats.specs.Grid.{Range, signed, inside, gridNo}
+use Rattle.floats.proofs.Signs.{minus?, signed-own, Le, le-to, no-factor}
+use Rattle.floats.proofs.Halves.{twice, twice-next, half-down}
+use Rattle.floats.proofs.Inside.{inside-le}
 
 -- a / d rounded up
 abbrev ceil : ℕ → ℕ → ℕ

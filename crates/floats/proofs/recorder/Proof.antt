@@ -7,10 +7,10 @@ use lib.Dec.{le→leb, lit≤}
 use lib.IntN.{pos}
 use lib.Ieee.{fin, binary32, div, ofInt, ofBits, inFloat}
 use borrow.Author.Tests.{le-ltb}
-use Rattle.readings.specs.Recorder.{recorderEnd, recorderOf}
-use Rattle.readings.proofs.Quotient.{recorder-is}
-use Rattle.readings.proofs.recorder.Statement.{statement}
-use Rattle.readings.proofs.recorder.Tie as tie
+use Rattle.floats.specs.Recorder.{recorderEnd, recorderOf}
+use Rattle.floats.proofs.Quotient.{recorder-is}
+use Rattle.floats.proofs.recorder.Statement.{statement}
+use Rattle.floats.proofs.recorder.Tie as tie
 
 thousand : ofInt binary32 (pos 1000) ≡ ofBits binary32 1148846080
 unfolding ofInt ofBits

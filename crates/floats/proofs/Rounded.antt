@@ -21,11 +21,11 @@ use mir.Syntax.{w64}
 use mir.Val.{SFits, toZ, ofZ}
 use mir.ValLaws.{toZ-pos, toZ-ofZ}
 use Rattle.whole.specs.Arith.{floorDiv}
-use Rattle.readings.specs.Grid.{finite, signed, gridNo}
-use Rattle.readings.specs.Rounding.{small, near, RoundedUp}
-use Rattle.readings.proofs.Signs.{same, signed-times, no-factor}
-use Rattle.readings.proofs.Halves.{twice, half-up, half-down}
-use Rattle.readings.proofs.Exactly.{times, sign, times-value}
+use Rattle.floats.specs.Grid.{finite, signed, gridNo}
+use Rattle.floats.specs.Rounding.{small, near, RoundedUp}
+use Rattle.floats.proofs.Signs.{same, signed-times, no-factor}
+use Rattle.floats.proofs.Halves.{twice, half-up, half-down}
+use Rattle.floats.proofs.Exactly.{times, sign, times-value}
 
 -- ---- a small float's whole part
 small-lt : (z : Float) → T (small z) → num z < 2 ^ 53 * den z

@@ -18,9 +18,9 @@ use lib.Ieee.Back.{round-whole}
 use lib.Ieee.Nearest.{closest, div-same}
 use lib.Ieee.Order.{drop, kept}
 use lib.Ieee.Scale.{round-same, grid, overflow, round-val}
-use Rattle.readings.specs.Grid.{finite, gridNo}
-use Rattle.readings.specs.Recorder.{recorderEnd, recorderOf}
-use Rattle.readings.proofs.Halves.{twice, twice-next}
+use Rattle.floats.specs.Grid.{finite, gridNo}
+use Rattle.floats.specs.Recorder.{recorderEnd, recorderOf}
+use Rattle.floats.proofs.Halves.{twice, twice-next}
 
 -- ---- the nearest whole number to a / b is within a half of it
 record Close (a b c : ℕ) : Type 0 where

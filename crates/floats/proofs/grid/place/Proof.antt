@@ -8,12 +8,12 @@ use lib.Ieee.{Float, binary32, binary64, le, mul, ofInt, fits}
 use mir.Syntax.{w32, w64}
 use mir.Val.{toZ, ofZ}
 use mir.ValLaws.{toZ-ofZ}
-use Rattle.readings.specs.Grid.{Range, range, inside, gridNo, placeOf}
-use Rattle.readings.specs.declared.Place.{Place}
-use Rattle.readings.proofs.Exactly.{times}
-use Rattle.readings.proofs.Inside.{Narrow, inside-is, inside-near}
-use Rattle.readings.proofs.grid.place.Statement.{statement}
-use Rattle.readings.proofs.grid.place.Tie as tie
+use Rattle.floats.specs.Grid.{Range, range, inside, gridNo, placeOf}
+use Rattle.floats.specs.declared.Place.{Place}
+use Rattle.floats.proofs.Exactly.{times}
+use Rattle.floats.proofs.Inside.{Narrow, inside-is, inside-near}
+use Rattle.floats.proofs.grid.place.Statement.{statement}
+use Rattle.floats.proofs.grid.place.Tie as tie
 
 f32-to-f64-with-nan-requires : tie.Need-f32-to-f64-with-nan-requires
 f32-to-f64-with-nan-requires c κs = search needs

@@ -9,8 +9,8 @@ use mathlib.Core.Bool.{Bool, true, false, not, cond}
 use lib.IntN.{ℤ, pos, negsuc, negℤ, _+ℤ_, _*ℤ_}
 use lib.Dec.{T, ltb, ltb→lt, nltb→le}
 use Rattle.whole.specs.Arith.{floorDiv}
-use Rattle.readings.specs.Grid.{signed}
-use Rattle.readings.proofs.Signs.{signed-times}
+use Rattle.floats.specs.Grid.{signed}
+use Rattle.floats.proofs.Signs.{signed-times}
 
 pub twice : (n k : ℕ) → n * (2 * k) ≡ n * k * 2
 twice n k = sym (mul-assoc n 2 k) ∙ mul-right-comm n 2 k

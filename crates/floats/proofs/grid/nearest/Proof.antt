@@ -10,9 +10,9 @@ use lib.Ieee.{binary32, binary64, fits, isNan, ofBits}
 use lib.Ieee.Fits.{and-i, fits-widens}
 use mir.Syntax.{w64}
 use mir.ValLaws.{toZ-pos}
-use Rattle.readings.proofs.Rounded.{near-no-nan, twice-small, twice-neg-small, from-below, from-above, part-small, part-asks, neg-fits, neg-back}
-use Rattle.readings.proofs.grid.nearest.Statement.{statement}
-use Rattle.readings.proofs.grid.nearest.Tie as tie
+use Rattle.floats.proofs.Rounded.{near-no-nan, twice-small, twice-neg-small, from-below, from-above, part-small, part-asks, neg-fits, neg-back}
+use Rattle.floats.proofs.grid.nearest.Statement.{statement}
+use Rattle.floats.proofs.grid.nearest.Tie as tie
 
 -- what owning an f32 tells: the format holds it
 held : (c : tie.Start) → T (fits binary32 (c .args .x))

@@ -1,0 +1,7 @@
+mod Signs
+mod Halves
+mod Exactly
+mod Rounded
+mod Inside
+pub mod Within
+pub mod Quotient

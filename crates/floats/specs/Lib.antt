@@ -1,0 +1,4 @@
+pub mod Grid
+pub mod Rounding
+pub mod Recorder
+pub mod Bytes
