@@ -4,4 +4,5 @@ mod Exactly
 mod Rounded
 mod Inside
 pub mod Within
+pub mod Order
 pub mod Quotient

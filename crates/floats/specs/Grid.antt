@@ -2,7 +2,7 @@
 use Prim.Native.Nat.{ℕ, _*_}
 use mathlib.Core.Bool.{Bool, true, false, cond, _&&_}
 use lib.IntN.{ℤ, pos, negℤ, _+ℤ_, _*ℤ_}
-use lib.Signed.{leZ}
+use lib.Signed.{leZ, _≤ℤ_}
 use lib.Ieee.{Float, nan, inf, fin, up, down}
 use Rattle.whole.specs.Arith.{floorDiv}
 use Rattle.floats.specs.declared.Place.{Place}
@@ -28,6 +28,13 @@ abbrev pub denom : Float → ℕ
 denom nan = 1
 denom (inf s) = 1
 denom (fin s m e) = down e
+
+-- the exact value of x is at most y's, by multiplying across; both have the same one
+abbrev pub AtMost : Float → Float → Type 0
+AtMost x y = (numer x *ℤ pos (denom y)) ≤ℤ (numer y *ℤ pos (denom x))
+
+abbrev pub Same : Float → Float → Type 0
+Same x y = AtMost x y × AtMost y x
 
 -- a row of document 01's table: the ends as grid numbers, and the grid's steps to 1
 pub record Range : Type 0 where

@@ -6,9 +6,11 @@ use native.Mathlib.Omega.{arith}
 use Rattle.refusals.specs.declared.Refusal.{Refusal}
 use Rattle.readings.specs.declared.Point.{Point}
 use Rattle.readings.specs.declared.Report.{Report}
+use Rattle.readings.specs.declared.Reading.{Reading}
+use Rattle.readings.specs.declared.Given.{Given}
 use Rattle.readings.specs.declared.Checked.{Checked}
-use Rattle.readings.specs.Check.{checkedOf}
-use Rattle.readings.specs.Answers.{OnGrid, Reason}
+use Rattle.readings.specs.Check.{givenOf, checkedOf}
+use Rattle.readings.specs.Answers.{OnGrid, Gridded, Reason}
 use Rattle.readings.proofs.Answers as reading
 use Rattle.sea.specs.declared.Water.{Water}
 use Rattle.sea.specs.Water.{waterOf}
@@ -49,6 +51,17 @@ pub case-of : (e : Entry) → Case e (channelOf e)
 unfolding channelOf
 case-of (Entry.Reading report) = by-check report (checkedOf report) refl
 case-of (Entry.Refused r) = no-record r
+
+-- ---- an accepted reading's point has the grid numbers of its floats
+pub accepted-gridded :
+    (report : Report) (r : Reading) (p : Point) (d k : ℕ) →
+    givenOf report ≡ Given.Reading r →
+    channelOf (Entry.Reading report) ≡ Channel.Accepted p d k →
+    Gridded r p
+accepted-gridded report r p d k g e = go (subst (Case (Entry.Reading report)) e (case-of (Entry.Reading report)))
+  where
+    go : Case (Entry.Reading report) (Channel.Accepted p d k) → Gridded r p
+    go (accepted _ _ _ _ c w) = reading.taken-gridded report r p g c
 
 -- ---- a reading is refused only for a listed reason
 pub refused-only : (report : Report) (r : Refusal) → channelOf (Entry.Reading report) ≡ Channel.Refused r → Reason report r

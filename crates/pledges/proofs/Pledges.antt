@@ -1,25 +1,31 @@
 -- Demand 3 of what the public calls return: an accepted channel shows the recipe's numbers at a point of the grid, of which the
--- promises speak. Assumes nothing.
+-- promises speak, and the point keeps the order of the floats. Assumes nothing.
 use Prim.Native.Nat.{ℕ, _≤_}
 use mathlib.Core.Path.{_≡_, sym, ap₂, _∙_, subst}
 use native.Mathlib.Omega.{arith}
 use lib.IntN.{ℤ, pos, _-ℤ_}
 use lib.Signed.{_≤ℤ_}
+use lib.Ieee.{Float}
 use Rattle.whole.specs.Arith.{plus}
 use Rattle.whole.specs.Fraction.{Frac}
 use Rattle.whole.proofs.Ints.{of-≤ℤ, above-plus}
 use Rattle.sea.specs.Recipe.{shownAt}
 use Rattle.sea.proofs.Answers.{Shown}
 use Rattle.sea.proofs.Grid.{natural}
+use Rattle.floats.specs.Grid.{gridNo, AtMost, Same}
+use Rattle.floats.proofs.Order.{grid-order, grid-same}
+use Rattle.readings.specs.declared.Reading.{Reading}
 use Rattle.readings.specs.declared.Point.{Point}
+use Rattle.readings.specs.Answers.{Gridded}
 use Rattle.panel.specs.declared.Entry.{Entry}
 use Rattle.panel.specs.declared.Channel.{Channel}
 use Rattle.panel.specs.declared.Needle.{Needle}
 use Rattle.panel.specs.Panel.{channelOf}
+use Rattle.panel.proofs.Answers.{accepted-gridded}
 use Rattle.panel.proofs.Sizes.{accepted-shows, accepted-table}
 use Rattle.promises.specs.Promises.{OnGrid, Sample, Close}
 use Rattle.promises.proofs.Promises as promise
-use Rattle.pledges.specs.Pledges.{formulaAt, ShownWithin, StifferThanPressure, Saltier, Deeper, Reading, RightHeavier, LeftHeavier, NeedleWithin}
+use Rattle.pledges.specs.Pledges.{formulaAt, ShownWithin, StifferThanPressure, Shows, Saltier, Deeper, Sides, RightHeavier, LeftHeavier, NeedleWithin}
 
 -- an accepted channel's point, in the promises' words
 on-grid : (e : Entry) (p : Point) (d k : ℕ) → Channel.Accepted p d k ≡ channelOf e → OnGrid (plus (p .sigma)) (p .tau) (plus (p .pi))
@@ -40,25 +46,57 @@ stiffer-than-pressure e p d k h = shows e p d k h .bulk-low
 more : {a b : ℤ} → a ≤ℤ b → plus a ≤ plus b
 more {a} {b} h = above-plus a b (of-≤ℤ a b h)
 
-pub saltier : Saltier
-saltier e f p q d k c j h i t π s =
+-- of points: the floats' order is the grid numbers'
+saltier-at :
+    (e f : Entry) (p q : Point) (d k c j : ℕ) → Channel.Accepted p d k ≡ channelOf e → Channel.Accepted q c j ≡ channelOf f →
+    p .tau ≡ q .tau → p .pi ≡ q .pi → p .sigma ≤ℤ q .sigma → d ≤ c
+saltier-at e f p q d k c j h i t π s =
     let g = on-grid e p d k h in
     let g′ : OnGrid (plus (q .sigma)) (p .tau) (plus (p .pi)) = rw (t, π) (on-grid f q c j i) in
     let l : c ≡ shownAt (plus (q .sigma)) (p .tau) (plus (p .pi)) = shows f q c j i .density-is ∙ rw (t, π) in
     omega (arith, shows e p d k h .density-is, l, promise.saltier (plus (p .sigma)) (plus (q .sigma)) (p .tau) (plus (p .pi)) g g′ (more s))
 
-pub deeper : Deeper
-deeper e f p q d k c j h i s t π =
+deeper-at :
+    (e f : Entry) (p q : Point) (d k c j : ℕ) → Channel.Accepted p d k ≡ channelOf e → Channel.Accepted q c j ≡ channelOf f →
+    p .sigma ≡ q .sigma → p .tau ≡ q .tau → p .pi ≤ℤ q .pi → d ≤ c
+deeper-at e f p q d k c j h i s t π =
     let g = on-grid e p d k h in
     let g′ : OnGrid (plus (p .sigma)) (p .tau) (plus (q .pi)) = rw (s, t) (on-grid f q c j i) in
     let l : c ≡ shownAt (plus (p .sigma)) (p .tau) (plus (q .pi)) = shows f q c j i .density-is ∙ rw (s, t) in
     omega (arith, shows e p d k h .density-is, l, promise.deeper (plus (p .sigma)) (p .tau) (plus (p .pi)) (plus (q .pi)) g g′ (more π))
 
+gridded : (x : Reading) (d : ℕ) (a : Shows x d) → Gridded x (a .point)
+gridded x d a = accepted-gridded (a .report) x (a .point) d (a .bulk) (a .reading-is) (sym (a .channel-is))
+
+number-same : (k : ℕ) (u v : Float) (m n : ℤ) → m ≡ gridNo k u → n ≡ gridNo k v → Same u v → m ≡ n
+number-same k u v m n e f h = e ∙ grid-same k u v h ∙ sym f
+
+number-order : (k : ℕ) (u v : Float) (m n : ℤ) → m ≡ gridNo k u → n ≡ gridNo k v → AtMost u v → m ≤ℤ n
+number-order k u v m n e f h = rw (e, f) (grid-order k u v h)
+
+pub saltier : Saltier
+saltier x y d c a b t p s =
+    let g = gridded x d a in
+    let h = gridded y c b in
+    saltier-at (Entry.Reading (a .report)) (Entry.Reading (b .report)) (a .point) (b .point) d (a .bulk) c (b .bulk) (a .channel-is) (b .channel-is)
+    (number-same 1000 (x .temperature) (y .temperature) _ _ (g .tau-is) (h .tau-is) t)
+    (number-same 100 (x .pressure) (y .pressure) _ _ (g .pi-is) (h .pi-is) p)
+    (number-order 1000 (x .salinity) (y .salinity) _ _ (g .sigma-is) (h .sigma-is) s)
+
+pub deeper : Deeper
+deeper x y d c a b s t p =
+    let g = gridded x d a in
+    let h = gridded y c b in
+    deeper-at (Entry.Reading (a .report)) (Entry.Reading (b .report)) (a .point) (b .point) d (a .bulk) c (b .bulk) (a .channel-is) (b .channel-is)
+    (number-same 1000 (x .salinity) (y .salinity) _ _ (g .sigma-is) (h .sigma-is) s)
+    (number-same 1000 (x .temperature) (y .temperature) _ _ (g .tau-is) (h .tau-is) t)
+    (number-order 100 (x .pressure) (y .pressure) _ _ (g .pi-is) (h .pi-is) p)
+
 -- ---- the needle
 taken : {y z : ℤ} → Needle.Value y ≡ Needle.Value z → y ≡ z
 taken e = cc
 
-module _ (p q : Point) (x y : Frac) (z : ℤ) (r : Reading p q x y z) where
+module _ (p q : Point) (x y : Frac) (z : ℤ) (r : Sides p q x y z) where
   left : Sample
   left = record { σ = plus (p .sigma); τ = p .tau; π = plus (p .pi); x = x; on-grid = on-grid (r .left) p (r .left-density) (r .left-bulk) (r .left-is); rooted = r .left-root }
 

@@ -6,7 +6,12 @@ use lib.IntN.{ℤ, pos}
 use lib.Signed.{_≤ℤ_}
 use Rattle.whole.specs.Arith.{neg, plus}
 use Rattle.whole.specs.Fraction.{Frac, over, _≤F_, _⊖_}
+use Rattle.floats.specs.Grid.{AtMost, Same}
+use Rattle.readings.specs.declared.Report.{Report}
+use Rattle.readings.specs.declared.Reading.{Reading}
+use Rattle.readings.specs.declared.Given.{Given}
 use Rattle.readings.specs.declared.Point.{Point}
+use Rattle.readings.specs.Check.{givenOf}
 use Rattle.panel.specs.declared.Entry.{Entry}
 use Rattle.panel.specs.declared.Channel.{Channel}
 use Rattle.panel.specs.declared.Needle.{Needle}
@@ -26,20 +31,28 @@ ShownWithin = (e : Entry) (p : Point) (d k : ℕ) (x : Frac) → Channel.Accepte
 abbrev pub StifferThanPressure : Type 0
 StifferThanPressure = (e : Entry) (p : Point) (d k : ℕ) → Channel.Accepted p d k ≡ channelOf e → plus (p .pi) < k
 
--- 3. at the same temperature and pressure saltier water never shows lighter
+-- the panel shows the density d for a reading, whichever kind of report it came in
+pub record Shows (x : Reading) (d : ℕ) : Type 0 where
+  pub report : Report
+  pub reading-is : givenOf report ≡ Given.Reading x
+  pub point : Point
+  pub bulk : ℕ
+  pub channel-is : Channel.Accepted point d bulk ≡ channelOf (Entry.Reading report)
+
+-- 3. at the same temperature and pressure saltier water never shows lighter: of the probes' own floats, before any rounding
 abbrev pub Saltier : Type 0
 Saltier =
-    (e f : Entry) (p q : Point) (d k c j : ℕ) → Channel.Accepted p d k ≡ channelOf e → Channel.Accepted q c j ≡ channelOf f →
-    p .tau ≡ q .tau → p .pi ≡ q .pi → p .sigma ≤ℤ q .sigma → d ≤ c
+    (x y : Reading) (d c : ℕ) → Shows x d → Shows y c →
+    Same (x .temperature) (y .temperature) → Same (x .pressure) (y .pressure) → AtMost (x .salinity) (y .salinity) → d ≤ c
 
--- 4. at the same salinity and temperature deeper water never shows lighter
+-- 4. at the same salinity and temperature deeper water never shows lighter, likewise
 abbrev pub Deeper : Type 0
 Deeper =
-    (e f : Entry) (p q : Point) (d k c j : ℕ) → Channel.Accepted p d k ≡ channelOf e → Channel.Accepted q c j ≡ channelOf f →
-    p .sigma ≡ q .sigma → p .tau ≡ q .tau → p .pi ≤ℤ q .pi → d ≤ c
+    (x y : Reading) (d c : ℕ) → Shows x d → Shows y c →
+    Same (x .salinity) (y .salinity) → Same (x .temperature) (y .temperature) → AtMost (x .pressure) (y .pressure) → d ≤ c
 
 -- what the two sides of a needle were, with a fraction in place of √v for each, and the needle between them
-pub record Reading (p q : Point) (x y : Frac) (z : ℤ) : Type 0 where
+pub record Sides (p q : Point) (x y : Frac) (z : ℤ) : Type 0 where
   pub left : Entry
   pub right : Entry
   pub left-density : ℕ
@@ -54,11 +67,11 @@ pub record Reading (p q : Point) (x y : Frac) (z : ℤ) : Type 0 where
 
 -- 5. a needle of 2 or more, either way, never names as heavier a water that the formula makes equal or lighter
 abbrev pub RightHeavier : Type 0
-RightHeavier = (p q : Point) (x y : Frac) (z : ℤ) → Reading p q x y z → pos 2 ≤ℤ z → ¬ (formulaAt q y ≤F formulaAt p x)
+RightHeavier = (p q : Point) (x y : Frac) (z : ℤ) → Sides p q x y z → pos 2 ≤ℤ z → ¬ (formulaAt q y ≤F formulaAt p x)
 
 abbrev pub LeftHeavier : Type 0
-LeftHeavier = (p q : Point) (x y : Frac) (z : ℤ) → Reading p q x y z → z ≤ℤ neg 2 → ¬ (formulaAt p x ≤F formulaAt q y)
+LeftHeavier = (p q : Point) (x y : Frac) (z : ℤ) → Sides p q x y z → z ≤ℤ neg 2 → ¬ (formulaAt p x ≤F formulaAt q y)
 
 -- 6. a needle is within 0.0012 kg/m³ of the formula's difference
 abbrev pub NeedleWithin : Type 0
-NeedleWithin = (p q : Point) (x y : Frac) (z : ℤ) → Reading p q x y z → Within (over 12 10_000) z (formulaAt q y ⊖ formulaAt p x)
+NeedleWithin = (p q : Point) (x y : Frac) (z : ℤ) → Sides p q x y z → Within (over 12 10_000) z (formulaAt q y ⊖ formulaAt p x)

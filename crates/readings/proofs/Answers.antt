@@ -1,6 +1,6 @@
 -- A reading that is taken is on the grid, and one that is refused is refused for a listed reason: by following the checks in
 -- their order, and since a float inside its range has its grid number inside. Assumes nothing.
-use mathlib.Core.Path.{_≡_, refl, sym, subst}
+use mathlib.Core.Path.{_≡_, refl, sym, _∙_, subst}
 use mathlib.Core.Bool.{Bool, true, false, cond}
 use lib.Dec.{T}
 use lib.Signed.{_≤ℤ_}
@@ -10,7 +10,7 @@ use Rattle.floats.specs.Grid.{Range, inside, gridNo, placeOf}
 use Rattle.floats.specs.declared.Place.{Place}
 use Rattle.floats.proofs.Within.{grid-within}
 use Rattle.readings.specs.Check.{salinities, temperatures, pressures, deepOf, surfaceOf, givenOf, allFinite, firstOutside, placedOf, inOrder, checkedOf}
-use Rattle.readings.specs.Answers.{OnGrid, Usable, Reason, missing, not-finite, salinity, temperature, pressure, Answered, taken, refused}
+use Rattle.readings.specs.Answers.{OnGrid, Gridded, Usable, Reason, missing, not-finite, salinity, temperature, pressure, Answered, taken, refused}
 use Rattle.readings.specs.declared.Report.{Report}
 use Rattle.readings.specs.declared.Reading.{Reading}
 use Rattle.readings.specs.declared.Point.{Point}
@@ -34,7 +34,7 @@ by-places report r w true true true s t p =
     let σ = within salinities (r .salinity) s in
     let τ = within temperatures (r .temperature) t in
     let π = within pressures (r .pressure) p in
-    taken (record { sigma-low = σ .0; sigma-high = σ .1; tau-low = τ .0; tau-high = τ .1; pi-low = π .0; pi-high = π .1 })
+    taken r w (record { sigma-is = refl; tau-is = refl; pi-is = refl }) (record { sigma-low = σ .0; sigma-high = σ .1; tau-low = τ .0; tau-high = τ .1; pi-low = π .0; pi-high = π .1 })
 
 with-reading : (report : Report) (r : Reading) → givenOf report ≡ Given.Reading r → (f : Finite) → allFinite report ≡ f
     → Answered report (inOrder (Given.Reading r) f)
@@ -54,7 +54,17 @@ pub taken-on-grid : (report : Report) (p : Point) → checkedOf report ≡ Check
 taken-on-grid report p e = go (subst (Answered report) e (answered report))
   where
     go : Answered report (Checked.Taken p) → OnGrid p
-    go (taken g) = g
+    go (taken r w n g) = g
+
+-- its numbers are those of its reading's floats
+pub taken-gridded : (report : Report) (r : Reading) (p : Point) → givenOf report ≡ Given.Reading r → checkedOf report ≡ Checked.Taken p → Gridded r p
+taken-gridded report r p h e = go (subst (Answered report) e (answered report))
+  where
+    one : (q : Reading) → givenOf report ≡ Given.Reading q → q ≡ r
+    one q g = let z : Given.Reading q ≡ Given.Reading r = sym g ∙ h in cc
+
+    go : Answered report (Checked.Taken p) → Gridded r p
+    go (taken q w n g) = subst (λ (x : Reading). Gridded x p) (one q (w .given)) n
 
 pub refused-only : (report : Report) (x : Refusal) → checkedOf report ≡ Checked.Refused x → Reason report x
 refused-only report x e = go (subst (Answered report) e (answered report))

@@ -5,7 +5,7 @@ use lib.IntN.{pos}
 use lib.Signed.{_≤ℤ_}
 use Rattle.whole.specs.Arith.{neg}
 use Rattle.refusals.specs.declared.Refusal.{Refusal}
-use Rattle.floats.specs.Grid.{inside}
+use Rattle.floats.specs.Grid.{inside, gridNo}
 use Rattle.readings.specs.Check.{salinities, temperatures, pressures, givenOf, allFinite}
 use Rattle.readings.specs.declared.Report.{Report}
 use Rattle.readings.specs.declared.Reading.{Reading}
@@ -22,6 +22,12 @@ pub record OnGrid (p : Point) : Type 0 where
   pub tau-high : p .tau ≤ℤ pos 40_000
   pub pi-low : pos 0 ≤ℤ p .pi
   pub pi-high : p .pi ≤ℤ pos 100_000
+
+-- p has the grid numbers of a reading's floats
+pub record Gridded (r : Reading) (p : Point) : Type 0 where
+  pub sigma-is : p .sigma ≡ gridNo 1000 (r .salinity)
+  pub tau-is : p .tau ≡ gridNo 1000 (r .temperature)
+  pub pi-is : p .pi ≡ gridNo 100 (r .pressure)
 
 -- the report has the reading r, and its floats are finite
 pub record Usable (report : Report) (r : Reading) : Type 0 where
@@ -40,5 +46,5 @@ pub data Reason : Report → Refusal → Type 0 where
 
 -- every answer is one of these two
 pub data Answered (report : Report) : Checked → Type 0 where
-  taken : {p : Point} → OnGrid p → Answered report (Checked.Taken p)
+  taken : {p : Point} (r : Reading) → Usable report r → Gridded r p → OnGrid p → Answered report (Checked.Taken p)
   refused : {x : Refusal} → Reason report x → Answered report (Checked.Refused x)
