@@ -15,7 +15,7 @@ use Rattle.readings.proofs.Answers as reading
 use Rattle.sea.specs.declared.Water.{Water}
 use Rattle.sea.specs.Water.{waterOf}
 use Rattle.sea.proofs.Answers.{OnTable, known-on-table}
-use Rattle.panel.specs.declared.Entry.{Entry}
+use Rattle.readings.specs.declared.Entry.{Entry}
 use Rattle.panel.specs.declared.Channel.{Channel}
 use Rattle.panel.specs.Panel.{filled, wateredOf, checkedChannel, channelOf}
 

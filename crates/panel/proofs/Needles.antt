@@ -6,7 +6,7 @@ use native.Mathlib.Omega.{arith}
 use lib.IntN.{ℤ, pos, negℤ, natAbs, _-ℤ_}
 use Rattle.whole.proofs.Ints.{same, size-is, sub-is, neg-plus, neg-minus}
 use Rattle.readings.specs.declared.Point.{Point}
-use Rattle.panel.specs.declared.Entry.{Entry}
+use Rattle.readings.specs.declared.Entry.{Entry}
 use Rattle.panel.specs.declared.Channel.{Channel}
 use Rattle.panel.specs.declared.Needle.{Needle}
 use Rattle.panel.specs.Panel.{needleOf, pairOf}

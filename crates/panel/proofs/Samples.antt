@@ -11,7 +11,7 @@ use Rattle.floats.specs.Bytes.{floatOf}
 use Rattle.floats.specs.Grid.{inside, gridNo, placeOf}
 use Rattle.readings.specs.Check.{placedOf, checkedOf}
 use Rattle.readings.specs.declared.Report.{Report}
-use Rattle.panel.specs.declared.Entry.{Entry}
+use Rattle.readings.specs.declared.Entry.{Entry}
 use Rattle.panel.specs.declared.Channel.{Channel}
 use Rattle.panel.specs.Panel.{wateredOf, channelOf}
 

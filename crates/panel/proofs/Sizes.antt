@@ -8,7 +8,7 @@ use Rattle.floats.specs.Recorder.{recorderOf}
 use Rattle.floats.proofs.Quotient.{recorder-back}
 use Rattle.readings.specs.declared.Point.{Point}
 use Rattle.sea.proofs.Answers.{OnTable, Shown, known-is-on-table, known-shows}
-use Rattle.panel.specs.declared.Entry.{Entry}
+use Rattle.readings.specs.declared.Entry.{Entry}
 use Rattle.panel.specs.declared.Channel.{Channel}
 use Rattle.panel.specs.Panel.{channelOf, Small}
 use Rattle.panel.proofs.Answers.{Case, accepted, refused, no-record, case-of}

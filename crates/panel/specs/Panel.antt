@@ -7,7 +7,7 @@ use Rattle.readings.specs.declared.Checked.{Checked}
 use Rattle.readings.specs.Check.{checkedOf}
 use Rattle.sea.specs.declared.Water.{Water}
 use Rattle.sea.specs.Water.{waterOf}
-use Rattle.panel.specs.declared.Entry.{Entry}
+use Rattle.readings.specs.declared.Entry.{Entry}
 use Rattle.panel.specs.declared.Channel.{Channel}
 use Rattle.panel.specs.declared.Needle.{Needle}
 use Rattle.panel.specs.declared.Pair.{Pair}

@@ -3,16 +3,10 @@ ghost use mathlib.Core.Path.{_≡_};
 ghost use Rattle.floats.specs.Recorder.{recorderOf};
 ghost use Rattle.panel.specs.Panel.{numberIn, densityIn, bulkIn, needleNumber, needleValue, wateredOf, channelOf, needleOf, pairOf};
 use readings::Checked;
+use readings::Entry;
 use readings::Point;
-use readings::Report;
 use refusals::Refusal;
 use sea::Water;
-
-// What stands in a channel: a probe's report, or the refusal of a record that gave none.
-pub enum Entry {
-    Reading(Report),
-    Refused(Refusal),
-}
 
 // A channel's answer: the grid numbers, the shown density in 0.001 kg/m3 and the bulk modulus in 0.01 bar; or why not.
 pub enum Channel {

@@ -17,7 +17,7 @@ use Rattle.floats.proofs.Order.{grid-order, grid-same}
 use Rattle.readings.specs.declared.Reading.{Reading}
 use Rattle.readings.specs.declared.Point.{Point}
 use Rattle.readings.specs.Answers.{Gridded}
-use Rattle.panel.specs.declared.Entry.{Entry}
+use Rattle.readings.specs.declared.Entry.{Entry}
 use Rattle.panel.specs.declared.Channel.{Channel}
 use Rattle.panel.specs.declared.Needle.{Needle}
 use Rattle.panel.specs.Panel.{channelOf}

@@ -12,7 +12,7 @@ use Rattle.readings.specs.declared.Reading.{Reading}
 use Rattle.readings.specs.declared.Given.{Given}
 use Rattle.readings.specs.declared.Point.{Point}
 use Rattle.readings.specs.Check.{givenOf}
-use Rattle.panel.specs.declared.Entry.{Entry}
+use Rattle.readings.specs.declared.Entry.{Entry}
 use Rattle.panel.specs.declared.Channel.{Channel}
 use Rattle.panel.specs.declared.Needle.{Needle}
 use Rattle.panel.specs.Panel.{channelOf, needleOf}

@@ -12,6 +12,12 @@ pub enum Report {
     Missing,
 }
 
+// What stands in a channel: a probe's report, or the refusal of a record that gave none.
+pub enum Entry {
+    Reading(Report),
+    Refused(Refusal),
+}
+
 // Practical salinity, temperature in °C, pressure in bar above the atmosphere.
 pub struct Reading {
     pub salinity: f32,

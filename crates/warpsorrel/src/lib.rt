@@ -11,7 +11,7 @@ ghost use Rattle.pages.specs.Page.{pageOf, filledOf, filledCount};
 ghost use Rattle.warpsorrel.specs.Abi.{entryOf, channelWords, pairWords};
 use pages::Filled;
 use panel::Channel;
-use panel::Entry;
+use readings::Entry;
 use readings::Report;
 use refusals::Refusal;
 
