@@ -3,6 +3,5 @@ mod Halves
 mod Exactly
 mod Rounded
 mod Inside
-pub mod Within
 pub mod Order
 pub mod Quotient

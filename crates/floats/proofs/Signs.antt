@@ -27,7 +27,7 @@ abbrev pub minus? : ℤ → Bool
 minus? (pos n) = false
 minus? (negsuc n) = true
 
-pub signed-own : (z : ℤ) → signed (minus? z) (natAbs z) ≡ z
+signed-own : (z : ℤ) → signed (minus? z) (natAbs z) ≡ z
 signed-own (pos n) = refl
 signed-own (negsuc n) = refl
 

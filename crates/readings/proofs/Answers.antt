@@ -8,7 +8,7 @@ use lib.Ieee.{Float}
 use Rattle.refusals.specs.declared.Refusal.{Refusal}
 use Rattle.floats.specs.Grid.{Range, inside, gridNo, placeOf}
 use Rattle.floats.specs.declared.Place.{Place}
-use Rattle.floats.proofs.Within.{grid-within}
+use Rattle.floats.proofs.Order.{grid-within}
 use Rattle.readings.specs.Check.{salinities, temperatures, pressures, deepOf, surfaceOf, givenOf, allFinite, firstOutside, placedOf, inOrder, checkedOf}
 use Rattle.readings.specs.Answers.{OnGrid, Gridded, Usable, Reason, missing, not-finite, salinity, temperature, pressure, Answered, taken, refused}
 use Rattle.readings.specs.declared.Report.{Report}
