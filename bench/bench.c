@@ -75,6 +75,12 @@ static uint64_t plain_grid(int n) {
     return sum;
 }
 
+static uint64_t jump_grid(int n) {
+    uint64_t sum = 0;
+    for (int i = 0; i < n; i++) sum += jump_density(readings[i].sigma, readings[i].tau, readings[i].pi);
+    return sum;
+}
+
 static uint64_t sqrt_grid(int n) {
     uint64_t sum = 0;
     for (int i = 0; i < n; i++) sum += sqrt_density(readings[i].sigma, readings[i].tau, readings[i].pi);
@@ -105,6 +111,16 @@ static uint64_t c_needle(int n) {
     return (uint64_t)sum;
 }
 
+/* From floats too; the doubles check nothing and round nothing. */
+static uint64_t double_needle(int n) {
+    double sum = 0;
+    for (int i = 0; i + 1 < n; i += 2) {
+        const struct reading *l = &readings[i], *r = l + 1;
+        sum += double_density(r->salinity, r->temperature, r->pressure) - double_density(l->salinity, l->temperature, l->pressure);
+    }
+    return (uint64_t)(int64_t)sum;
+}
+
 static uint64_t library_page(int n) {
     uint64_t sum = 0;
     for (int i = 0; i < n; i++) sum += warpsorrel_page(stream, sizeof stream, page, sizeof page);
@@ -124,10 +140,16 @@ static const struct work {
     double answers; /* a turn's answers to a reading or page */
     const char *unit;
 } works[] = {
-    {"reading", "library", library_grid, MOST, FEW, 1, "million"},    {"reading", "plain", plain_grid, MOST, FEW, 1, "million"},
-    {"reading", "plain-sqrt", sqrt_grid, MOST, FEW, 1, "million"},    {"reading", "double", double_grid, MOST, FEW, 1, "million"},
-    {"needle", "library", library_needle, MOST, FEW, 0.5, "million"}, {"needle", "plain", c_needle, MOST, FEW, 0.5, "million"},
-    {"page", "library", library_page, 2, 1, 1, "thousand"},           {"page", "plain", c_page, 2, 1, 1, "thousand"},
+    {"reading", "library", library_grid, MOST, FEW, 1, "million"},
+    {"reading", "plain", plain_grid, MOST, FEW, 1, "million"},
+    {"reading", "plain-jump", jump_grid, MOST, FEW, 1, "million"},
+    {"reading", "plain-sqrt", sqrt_grid, MOST, FEW, 1, "million"},
+    {"reading", "double", double_grid, MOST, FEW, 1, "million"},
+    {"needle", "library", library_needle, MOST, FEW, 0.5, "million"},
+    {"needle", "plain", c_needle, MOST, FEW, 0.5, "million"},
+    {"needle", "double", double_needle, MOST, FEW, 0.5, "million"},
+    {"page", "library", library_page, 2, 1, 1, "thousand"},
+    {"page", "plain", c_page, 2, 1, 1, "thousand"},
 };
 #define WORKS (int)(sizeof works / sizeof *works)
 
@@ -153,7 +175,9 @@ static int check(void) {
         for (int i = 0; i < MOST; i++) {
             const struct reading *r = &readings[i], *l = &readings[(i + 1) % MOST];
             uint32_t density = warpsorrel_density(r->sigma, r->tau, r->pi);
-            if (density != plain_density(r->sigma, r->tau, r->pi) || density != sqrt_density(r->sigma, r->tau, r->pi)) return differs("reading", waters[d], i);
+            if (density != plain_density(r->sigma, r->tau, r->pi) || density != jump_density(r->sigma, r->tau, r->pi) ||
+                density != sqrt_density(r->sigma, r->tau, r->pi))
+                return differs("reading", waters[d], i);
             double off = double_density(r->s, r->t, r->p) - density / 1000.0;
             if (off > 0.0006 || off < -0.0006) return differs("reading in doubles", waters[d], i);
             int64_t one[3], two[3];

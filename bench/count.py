@@ -9,10 +9,10 @@ import sys
 
 objdump, map_path, program, *emulator = sys.argv[1:]
 
-WORK = [("reading", data, who) for data in ("uniform", "sea-like", "one-salinity") for who in ("library", "plain", "plain-sqrt", "double")]
-WORK += [("needle", data, who) for data in ("uniform", "sea-like", "one-salinity") for who in ("library", "plain")]
+WORK = [("reading", data, who) for data in ("uniform", "sea-like", "one-salinity") for who in ("library", "plain", "plain-jump", "plain-sqrt", "double")]
+WORK += [("needle", data, who) for data in ("uniform", "sea-like", "one-salinity") for who in ("library", "plain", "double")]
 WORK += [("page", data, who) for data in ("deep", "surface", "missing") for who in ("library", "plain")]
-FILES = {"library": "libwarpsorrel.a(", "plain": "plain.o", "plain-sqrt": "sqrt.o", "double": "double.o"}
+FILES = {"library": "libwarpsorrel.a(", "plain": "plain.o", "plain-jump": "jump.o", "plain-sqrt": "sqrt.o", "double": "double.o"}
 
 
 def places():

@@ -11,6 +11,9 @@ uint32_t plain_needle(uint32_t left_kind, float left_salinity, float left_temper
                       float right_salinity, float right_temperature, float right_pressure, int64_t out[3]);
 size_t plain_page(const uint8_t *stream, size_t length, uint8_t *out, size_t room);
 
+/* The same file, compiled so that the root's search jumps on every digit. */
+uint32_t jump_density(int64_t sigma, int64_t tau, int64_t pi);
+
 /* The same file with the root taken by the processor's square root of a double. */
 uint32_t sqrt_density(int64_t sigma, int64_t tau, int64_t pi);
 

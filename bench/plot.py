@@ -3,7 +3,7 @@
 A result is a line: what, data, who, figure, unit or class of instruction."""
 import sys
 
-WHO = {"library": ("the library", "#1b6ca8"), "plain": ("plain C", "#8a8a8a"), "plain-sqrt": ("plain C, processor's root", "#c4c4c4"), "double": ("doubles", "#e0a030")}
+WHO = {"library": ("the library", "#1b6ca8"), "plain": ("plain C", "#707070"), "plain-jump": ("with a root that jumps", "#a0a0a0"), "plain-sqrt": ("with the processor's root", "#c8c8c8"), "double": ("doubles", "#e0a030")}
 
 
 def read(path):
@@ -30,7 +30,7 @@ def table(title, rows):
 
 def panel(title, rows, top):
     """A bar for each figure, as long as its ratio to plain C's."""
-    left, width, bar = 150, 430, 11
+    left, width, bar = 150, 560, 11
     most = max(figure / by["plain"] for by in rows.values() for figure in by.values())
     unit = width / most
     parts = [f'<text x="12" y="{top + 16}" class="title">{title}</text>']
@@ -53,13 +53,13 @@ def picture(panels, path):
     x = 12
     for name, colour in WHO.values():
         parts.append(f'<rect x="{x}" y="{y}" width="11" height="11" fill="{colour}"/><text x="{x + 16}" y="{y + 10}">{name}</text>')
-        x += 30 + 7 * len(name)
+        x += 34 + 7 * len(name)
     y += 22
     for title, rows in panels:
         drawn, y = panel(title, rows, y)
         parts += drawn
     with open(path, "w") as out:
-        out.write(f'<svg xmlns="http://www.w3.org/2000/svg" width="640" height="{y}" viewBox="0 0 640 {y}">\n'
+        out.write(f'<svg xmlns="http://www.w3.org/2000/svg" width="760" height="{y}" viewBox="0 0 760 {y}">\n'
                   "<style>text{font:12px sans-serif;fill:#202020}.small{font-size:9px}.title{font-weight:bold}</style>\n"
                   '<rect width="100%" height="100%" fill="#ffffff"/>\n' + "\n".join(parts) + "\n</svg>\n")
 
