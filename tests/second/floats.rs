@@ -30,7 +30,7 @@ impl Float {
 
     /// From low to high, ends included.
     pub fn within(self, low: i64, high: i64) -> bool {
-        self.exact().is_some_and(|(value, shift)| (low as i128) << shift <= value && value <= (high as i128) << shift)
+        self.exact().map_or(false, |(value, shift)| (low as i128) << shift <= value && value <= (high as i128) << shift)
     }
 
     /// The value times `per_unit`, plus one half, rounded down.
