@@ -63,29 +63,16 @@ static void take_stream(const char *which) {
 
 /* ---- what is measured; each gives a number that depends on every answer */
 
-static uint64_t library_grid(int n) {
-    uint64_t sum = 0;
-    for (int i = 0; i < n; i++) sum += warpsorrel_density(readings[i].sigma, readings[i].tau, readings[i].pi);
-    return sum;
-}
-
-static uint64_t plain_grid(int n) {
-    uint64_t sum = 0;
-    for (int i = 0; i < n; i++) sum += plain_density(readings[i].sigma, readings[i].tau, readings[i].pi);
-    return sum;
-}
-
-static uint64_t jump_grid(int n) {
-    uint64_t sum = 0;
-    for (int i = 0; i < n; i++) sum += jump_density(readings[i].sigma, readings[i].tau, readings[i].pi);
-    return sum;
-}
-
-static uint64_t sqrt_grid(int n) {
-    uint64_t sum = 0;
-    for (int i = 0; i < n; i++) sum += sqrt_density(readings[i].sigma, readings[i].tau, readings[i].pi);
-    return sum;
-}
+#define GRID(name, density) \
+    static uint64_t name(int n) { \
+        uint64_t sum = 0; \
+        for (int i = 0; i < n; i++) sum += density(readings[i].sigma, readings[i].tau, readings[i].pi); \
+        return sum; \
+    }
+GRID(library_grid, warpsorrel_density)
+GRID(plain_grid, plain_density)
+GRID(jump_grid, jump_density)
+GRID(sqrt_grid, sqrt_density)
 
 static uint64_t double_grid(int n) {
     double sum = 0;
@@ -93,23 +80,17 @@ static uint64_t double_grid(int n) {
     return (uint64_t)sum;
 }
 
-static uint64_t library_needle(int n) {
-    int64_t out[3], sum = 0;
-    for (int i = 0; i + 1 < n; i += 2) {
-        const struct reading *l = &readings[i], *r = l + 1;
-        sum += warpsorrel_needle(1, l->salinity, l->temperature, l->pressure, 1, r->salinity, r->temperature, r->pressure, out) + out[2];
+#define NEEDLE(name, needle) \
+    static uint64_t name(int n) { \
+        int64_t out[3], sum = 0; \
+        for (int i = 0; i + 1 < n; i += 2) { \
+            const struct reading *l = &readings[i], *r = l + 1; \
+            sum += needle(1, l->salinity, l->temperature, l->pressure, 1, r->salinity, r->temperature, r->pressure, out) + out[2]; \
+        } \
+        return (uint64_t)sum; \
     }
-    return (uint64_t)sum;
-}
-
-static uint64_t c_needle(int n) {
-    int64_t out[3], sum = 0;
-    for (int i = 0; i + 1 < n; i += 2) {
-        const struct reading *l = &readings[i], *r = l + 1;
-        sum += plain_needle(1, l->salinity, l->temperature, l->pressure, 1, r->salinity, r->temperature, r->pressure, out) + out[2];
-    }
-    return (uint64_t)sum;
-}
+NEEDLE(library_needle, warpsorrel_needle)
+NEEDLE(c_needle, plain_needle)
 
 /* From floats too; the doubles check nothing and round nothing. */
 static uint64_t double_needle(int n) {
@@ -121,17 +102,14 @@ static uint64_t double_needle(int n) {
     return (uint64_t)(int64_t)sum;
 }
 
-static uint64_t library_page(int n) {
-    uint64_t sum = 0;
-    for (int i = 0; i < n; i++) sum += warpsorrel_page(stream, sizeof stream, page, sizeof page);
-    return sum;
-}
-
-static uint64_t c_page(int n) {
-    uint64_t sum = 0;
-    for (int i = 0; i < n; i++) sum += plain_page(stream, sizeof stream, page, sizeof page);
-    return sum;
-}
+#define PAGE(name, write) \
+    static uint64_t name(int n) { \
+        uint64_t sum = 0; \
+        for (int i = 0; i < n; i++) sum += write(stream, sizeof stream, page, sizeof page); \
+        return sum; \
+    }
+PAGE(library_page, warpsorrel_page)
+PAGE(c_page, plain_page)
 
 static const struct work {
     const char *what, *who;

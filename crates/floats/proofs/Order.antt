@@ -43,29 +43,27 @@ module _ (k : ℕ) (x : Float) where
 across : (a c : ℤ) (d b : ℕ) → (a *ℤ pos d) ≼ (c *ℤ pos b) → plus a * d + minus c * b ≤ plus c * b + minus a * d
 across a c d b h = omega (arith, h, mul-plus a (pos d), mul-minus a (pos d), mul-plus c (pos b), mul-minus c (pos b))
 
--- ---- two floats
--- from the fractions a/b and c/d, with k steps to 1, to the rounded numbers p − m and q − n
-core :
-    (k b d a a′ c c′ p m q n : ℕ) →
-    0 < b →
-    0 < d →
-    2 * b * p + a′ * (2 * k) ≤ a * (2 * k) + b + 2 * b * m →
-    c * (2 * k) + d + 2 * d * n < 2 * d * q + c′ * (2 * k) + 2 * d →
-    a * d + c′ * b ≤ c * b + a′ * d →
-    p + n ≤ q + m
-core k b d a a′ c c′ p m q n b0 d0 l h o = go (decLe (p + n) (q + m))
+-- more by less than one in b-ths is not more
+under : (b x y : ℕ) → b * x < b * y + b → x ≤ y
+under b x y h = go (decLe x y)
   where
-    go : Dec (p + n ≤ q + m) → p + n ≤ q + m
-    go (yes x) = x
-    go (no x) =
-        let f : q + m + 1 ≤ p + n = omega arith in
-        let g : c * (2 * k) + d + 2 * d * n + 1 ≤ 2 * d * q + c′ * (2 * k) + 2 * d = omega arith in
-        absurd (omega (arith, mul-le-mul-left d l, mul-le-mul-left b g, mul-le-mul-left (2 * k) o, mul-le-mul-left (2 * (b * d)) f))
+    go : Dec (x ≤ y) → x ≤ y
+    go (yes p) = p
+    go (no p) =
+        let f : y + 1 ≤ x = omega arith in
+        absurd (omega (arith, mul-le-mul-left b f))
 
+-- ---- two floats
 pub grid-order : (k : ℕ) (x y : Float) → AtMost x y → gridNo k x ≤ℤ gridNo k y
 grid-order k x y h =
-    let o = across (numer x) (numer y) (denom y) (denom x) (of-≤ℤ (numer x *ℤ pos (denom y)) (numer y *ℤ pos (denom x)) h) in
-    to-≤ℤ (gridNo k x) (gridNo k y) (core k (denom x) (denom y) _ _ _ _ _ _ _ _ (denom-pos x) (denom-pos y) (low k x) (high k y) o)
+    let b = denom x in
+    let d = denom y in
+    let g = gridNo k x in
+    let o = across (numer x) (numer y) d b (of-≤ℤ (numer x *ℤ pos d) (numer y *ℤ pos b) h) in
+    let above : plus (numer y) * (2 * k) + d + 2 * d * minus (gridNo k y) + 1 ≤ 2 * d * plus (gridNo k y) + minus (numer y) * (2 * k) + 2 * d = omega (arith, high k y) in
+    to-≤ℤ g (gridNo k y)
+    (under (2 * (b * d)) (plus g + minus (gridNo k y)) (plus (gridNo k y) + minus g)
+    (omega (arith, denom-pos x, mul-le-mul-left d (low k x), mul-le-mul-left b above, mul-le-mul-left (2 * k) o)))
 
 pub grid-same : (k : ℕ) (x y : Float) → Same x y → gridNo k x ≡ gridNo k y
 grid-same k x y h =
@@ -73,35 +71,19 @@ grid-same k x y h =
     let b = of-≤ℤ (gridNo k y) (gridNo k x) (grid-order k y x (h .1)) in
     same (gridNo k x) (gridNo k y) (omega (arith, a, b))
 
--- ---- a float and a range's end, a whole number of steps
-from-end : (k b a a′ l l′ p m : ℕ) → 0 < b → a * (2 * k) + b + 2 * b * m < 2 * b * p + a′ * (2 * k) + 2 * b → l * b + a′ * k ≤ a * k + l′ * b → l + m ≤ p + l′
-from-end k b a a′ l l′ p m b0 h o = go (decLe (l + m) (p + l′))
-  where
-    go : Dec (l + m ≤ p + l′) → l + m ≤ p + l′
-    go (yes x) = x
-    go (no x) =
-        let f : p + l′ + 1 ≤ l + m = omega arith in
-        absurd (omega (arith, mul-le-mul-left (2 * b) f))
-
-to-end : (k b a a′ u u′ p m : ℕ) → 0 < b → 2 * b * p + a′ * (2 * k) ≤ a * (2 * k) + b + 2 * b * m → a * k + u′ * b ≤ u * b + a′ * k → p + u′ ≤ u + m
-to-end k b a a′ u u′ p m b0 h o = go (decLe (p + u′) (u + m))
-  where
-    go : Dec (p + u′ ≤ u + m) → p + u′ ≤ u + m
-    go (yes x) = x
-    go (no x) =
-        let f : u + m + 1 ≤ p + u′ = omega arith in
-        absurd (omega (arith, mul-le-mul-left (2 * b) f))
-
+-- ---- a float and a range's ends, whole numbers of steps
 pub grid-within : (r : Range) (x : Float) → T (inside r x) → (r .low ≤ℤ gridNo (r .steps) x) × (gridNo (r .steps) x ≤ℤ r .high)
 unfolding inside
 grid-within r x i =
     let k = r .steps in
+    let b = denom x in
+    let g = gridNo k x in
     let v = numer x *ℤ pos k in
-    let lo = r .low *ℤ pos (denom x) in
-    let hi = r .high *ℤ pos (denom x) in
+    let lo = r .low *ℤ pos b in
+    let hi = r .high *ℤ pos b in
     let both = and-r (finite x) (leZ lo v && leZ v hi) i in
-    let l = across (r .low) (numer x) (denom x) k (of-≤ℤ lo v (leZ-yes (and-l (leZ lo v) (leZ v hi) both))) in
-    let u = across (numer x) (r .high) k (denom x) (of-≤ℤ v hi (leZ-yes (and-r (leZ lo v) (leZ v hi) both))) in (
-      to-≤ℤ (r .low) (gridNo k x) (from-end k (denom x) _ _ _ _ _ _ (denom-pos x) (high k x) l),
-      to-≤ℤ (gridNo k x) (r .high) (to-end k (denom x) _ _ _ _ _ _ (denom-pos x) (low k x) u),
+    let l = across (r .low) (numer x) b k (of-≤ℤ lo v (leZ-yes (and-l (leZ lo v) (leZ v hi) both))) in
+    let u = across (numer x) (r .high) k b (of-≤ℤ v hi (leZ-yes (and-r (leZ lo v) (leZ v hi) both))) in (
+      to-≤ℤ (r .low) g (under (2 * b) (plus (r .low) + minus g) (plus g + minus (r .low)) (omega (arith, high k x, l))),
+      to-≤ℤ g (r .high) (under (2 * b) (plus g + minus (r .high)) (plus (r .high) + minus g) (omega (arith, low k x, u, denom-pos x))),
     )
