@@ -1,7 +1,5 @@
-mod Signs
-mod Halves
-mod Exactly
-mod Rounded
-mod Inside
+mod Floors
+mod Patterns
 pub mod Order
 pub mod Quotient
+pub mod One

@@ -1,19 +1,18 @@
 -- Where a grid number lies: the exact value in steps is within half a step of it. So rounding keeps the order of exact values, floats of one
 -- value have one grid number, and a float inside a range has its grid number inside. ℤ is read as a difference of naturals. Assumes nothing.
 use Prim.Native.Nat.{ℕ, _+_, _*_, _≤_, _<_}
-use mathlib.Core.Path.{_≡_}
+use mathlib.Core.Path.{_≡_, ap}
 use mathlib.Core.Bool.{_&&_}
 use native.Mathlib.Nat.{mul-le-mul-left}
 use native.Mathlib.Omega.{arith}
-use native.Mathlib.Decide.{decLe}
 use lib.IntN.{ℤ, pos, _+ℤ_, _*ℤ_}
 use lib.Signed.{_≤ℤ_, leZ, leZ-yes}
 use lib.Dec.{T, lit<}
 use lib.Ieee.{Float, nan, inf, fin}
 use lib.Ieee.Fits.{and-l, and-r, down-pos}
 use Rattle.whole.specs.Arith.{plus, minus}
-use Rattle.whole.specs.Order.{_≼_}
 use Rattle.whole.proofs.Ints.{add-is, mul-plus, mul-minus, Floored, floored, to-≤ℤ, of-≤ℤ, same}
+use Rattle.floats.proofs.Floors.{across, under, floor-order}
 use Rattle.floats.specs.Grid.{finite, numer, denom, Range, inside, gridNo, AtMost, Same}
 
 denom-pos : (x : Float) → 0 < denom x
@@ -29,41 +28,32 @@ module _ (k : ℕ) (x : Float) where
   abbrev b : ℕ
   b = denom x
 
-  steps : Floored (a *ℤ pos (2 * k) +ℤ pos b) (2 * b) (gridNo k x)
+  -- a fraction of steps, of which the grid number is the quotient
+  abbrev w : ℤ
+  w = a *ℤ pos (2 * k) +ℤ pos b
+
+  steps : Floored w (2 * b) (gridNo k x)
   unfolding gridNo
-  steps = floored (a *ℤ pos (2 * k) +ℤ pos b) (2 * b) (omega (arith, denom-pos x))
+  steps = floored w (2 * b) (omega (arith, denom-pos x))
+
+  w-is : plus w + minus a * (2 * k) ≡ minus w + (plus a * (2 * k) + b)
+  w-is = omega (arith, add-is (a *ℤ pos (2 * k)) (pos b) .is, mul-plus a (pos (2 * k)), mul-minus a (pos (2 * k)))
 
   low : 2 * b * plus (gridNo k x) + minus a * (2 * k) ≤ plus a * (2 * k) + b + 2 * b * minus (gridNo k x)
-  low = omega (arith, steps .low, add-is (a *ℤ pos (2 * k)) (pos b) .is, mul-plus a (pos (2 * k)), mul-minus a (pos (2 * k)))
+  low = omega (arith, steps .low, w-is)
 
   high : plus a * (2 * k) + b + 2 * b * minus (gridNo k x) < 2 * b * plus (gridNo k x) + minus a * (2 * k) + 2 * b
-  high = omega (arith, steps .high, add-is (a *ℤ pos (2 * k)) (pos b) .is, mul-plus a (pos (2 * k)), mul-minus a (pos (2 * k)))
-
--- products by naturals, compared
-across : (a c : ℤ) (d b : ℕ) → (a *ℤ pos d) ≼ (c *ℤ pos b) → plus a * d + minus c * b ≤ plus c * b + minus a * d
-across a c d b h = omega (arith, h, mul-plus a (pos d), mul-minus a (pos d), mul-plus c (pos b), mul-minus c (pos b))
-
--- more by less than one in b-ths is not more
-under : (b x y : ℕ) → b * x < b * y + b → x ≤ y
-under b x y h = go (decLe x y)
-  where
-    go : Dec (x ≤ y) → x ≤ y
-    go (yes p) = p
-    go (no p) =
-        let f : y + 1 ≤ x = omega arith in
-        absurd (omega (arith, mul-le-mul-left b f))
+  high = omega (arith, steps .high, w-is)
 
 -- ---- two floats
 pub grid-order : (k : ℕ) (x y : Float) → AtMost x y → gridNo k x ≤ℤ gridNo k y
 grid-order k x y h =
     let b = denom x in
     let d = denom y in
-    let g = gridNo k x in
     let o = across (numer x) (numer y) d b (of-≤ℤ (numer x *ℤ pos d) (numer y *ℤ pos b) h) in
-    let above : plus (numer y) * (2 * k) + d + 2 * d * minus (gridNo k y) + 1 ≤ 2 * d * plus (gridNo k y) + minus (numer y) * (2 * k) + 2 * d = omega (arith, high k y) in
-    to-≤ℤ g (gridNo k y)
-    (under (2 * (b * d)) (plus g + minus (gridNo k y)) (plus (gridNo k y) + minus g)
-    (omega (arith, denom-pos x, mul-le-mul-left d (low k x), mul-le-mul-left b above, mul-le-mul-left (2 * k) o)))
+    to-≤ℤ (gridNo k x) (gridNo k y)
+    (floor-order (w k x) (w k y) (gridNo k x) (gridNo k y) (2 * b) (2 * d) (omega (arith, denom-pos x)) (steps k x) (steps k y)
+    (omega (arith, mul-le-mul-left (4 * k) o, ap (λ (m : ℕ). 2 * d * m) (w-is k x), ap (λ (m : ℕ). 2 * b * m) (w-is k y))))
 
 pub grid-same : (k : ℕ) (x y : Float) → Same x y → gridNo k x ≡ gridNo k y
 grid-same k x y h =

@@ -20,7 +20,12 @@ use lib.Ieee.Order.{drop, kept}
 use lib.Ieee.Scale.{round-same, grid, overflow, round-val}
 use Rattle.floats.specs.Grid.{finite, gridNo}
 use Rattle.floats.specs.Recorder.{recorderEnd, recorderOf}
-use Rattle.floats.proofs.Halves.{twice, twice-next}
+
+twice : (n k : ℕ) → n * (2 * k) ≡ n * k * 2
+twice n k = omega arith
+
+twice-next : (n k : ℕ) → (n + 1) * (2 * k) ≡ n * k * 2 + 2 * k
+twice-next n k = omega arith
 
 -- ---- the nearest whole number to a / b is within a half of it
 record Close (a b c : ℕ) : Type 0 where

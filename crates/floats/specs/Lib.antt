@@ -1,4 +1,4 @@
 pub mod Grid
-pub mod Rounding
+pub mod Pattern
 pub mod Recorder
 pub mod Bytes

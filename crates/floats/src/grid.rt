@@ -1,9 +1,10 @@
-// A float's range test and its number on a grid of k steps to 1, for a k that leaves every product exact.
+// A float's range test and its number on a grid of k steps to 1, by whole numbers on the float's bits: of floats there are
+// comparisons only, so no rounding mode of the caller changes an answer, nor does one that takes denormals for 0.
 ghost use mathlib.Core.Path.{_≡_};
-ghost use Prim.Native.Nat.{_^_, _≤_};
-ghost use lib.Dec.{T};
-ghost use Rattle.floats.specs.Grid.{finite, gridNo, placeOf, range};
-ghost use Rattle.floats.specs.Rounding.{small, near, RoundedUp};
+ghost use Prim.Native.Nat.{_^_, _≤_, _<_};
+ghost use lib.IntN.{natAbs};
+ghost use Rattle.floats.specs.Grid.{finite, placeOf, range};
+ghost use Rattle.floats.specs.Pattern.{digitsOf, placeAt};
 use crate::Place;
 
 // Neither a NaN nor an infinity.
@@ -14,39 +15,49 @@ pub fn is_finite(x: f32) -> bool
     -infinity < x && x < infinity
 }
 
-// z rounded up to a whole number, for a z that is not negative.
-fn rounded_up(z: f64) -> u64
-    requires { ⌜ T (small z) ⌝ }
-    ensures { λ r. ⌜ RoundedUp z r ⌝ }
+// The digits of a pattern n with n's sign. The leading one is not written: it is there where the exponent's field e is not 0.
+fn digits(n: u32, e: u32) -> i64
+    ensures { λ r. ⌜ r ≡ digitsOf n e ⌝ }
 {
-    let t = std::num::truncating_f64_to_u64(z);
-    if (t as f64) < z { t + 1 } else { t }
-}
-
-// x times k plus one half, rounded down. Nothing is added to a float: z, twice the product, is exact, with 24 + 22 digits at
-// most, and its whole part is halved.
-fn nearest(x: f32, k: u32) -> i64
-    requires { ⌜ T (near k x) ⌝ ∗ ⌜ k ≤ 2 ^ 20 ⌝ }
-    ensures { λ r. ⌜ r ≡ gridNo k x ⌝ }
-{
-    let z = (x as f64) * ((2 * k) as f64);
-    if z < 0.0 {
-        0 - ((rounded_up(-z) / 2) as i64)
+    let t = n % 0x80_0000;
+    let m = if e == 0 { t } else { 0x80_0000 + t };
+    if n < 0x8000_0000 {
+        m as i64
     } else {
-        ((std::num::truncating_f64_to_u64(z) + 1) / 2) as i64
+        -(m as i64)
     }
 }
 
-// The place of x, if the exact product is from lo to hi, ends included. A NaN fails both tests.
-pub fn place(x: f32, lo: i32, hi: i32, k: u32) -> Place
-    requires { ⌜ k ≤ 2 ^ 20 ⌝ }
-    ensures { λ r. ⌜ r ≡ placeOf (range lo hi k) x ⌝ }
+// The place of w / 2^s. A shift rounds down, also below 0, so that lo is tested on w and hi on -w. Half steps rounded down,
+// and one more, halved: a half goes up.
+fn place_at(w: i64, s: u32, lo: i32, hi: i32) -> Place
+    requires { ⌜ natAbs w < 2 ^ 44 ⌝ ∗ ⌜ s < 64 ⌝ }
+    ensures { λ r. ⌜ r ≡ placeAt lo hi w (2 ^ s) ⌝ }
 {
-    let y = std::num::f32_to_f64_with_nan(x) * (k as f64);
-    if lo as f64 <= y {
-        if y <= hi as f64 {
-            return Place::At(nearest(x, k));
+    if lo as i64 <= w >> s {
+        if -(hi as i64) <= -w >> s {
+            return Place::At(((2 * w >> s) + 1) >> 1);
         }
     }
     Place::Outside
+}
+
+// The place of x, if the exact product is from lo to hi, ends included: digits times k over a power of two that the exponent's
+// field e tells. From 150 on x is an infinity, or 2^23 and more, beyond both ends. Below 88 the power is 2^63 and more, where
+// the product, under 2^44, rounds as over 2^62.
+pub fn place(x: f32, lo: i32, hi: i32, k: u32) -> Place
+    requires { ⌜ 1 ≤ k ⌝ ∗ ⌜ k ≤ 2 ^ 20 ⌝ ∗ ⌜ natAbs lo < 2 ^ 23 ⌝ ∗ ⌜ natAbs hi < 2 ^ 23 ⌝ }
+    ensures { λ r. ⌜ r ≡ placeOf (range lo hi k) x ⌝ }
+{
+    if x != x {
+        return Place::Outside;
+    }
+    let n = f32::to_bits(x);
+    let e = n % 0x8000_0000 / 0x80_0000;
+    if 150 <= e {
+        return Place::Outside;
+    }
+    let s = if e < 88 { 62 } else { 150 - e };
+    let w = digits(n, e) * (k as i64);
+    place_at(w, s, lo, hi)
 }

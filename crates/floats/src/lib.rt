@@ -1,5 +1,5 @@
 // What is said of one float, whatever it measures: its place on a grid, the float for the recorder, a float from its four
-// bytes. The inside of the engine: what `grid::place` asks for keeps its products exact, and the calls above it see to it.
+// bytes. The inside of the engine: what `grid::place` asks for keeps its words from overflowing, and the calls above it see to it.
 ghost use mathlib.Core.Path.{_≡_};
 ghost use Rattle.floats.specs.Recorder.{recorderOf};
 ghost use Rattle.floats.specs.Bytes.{floatOf};
