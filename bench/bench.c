@@ -47,13 +47,15 @@ static void take_readings(const char *which) {
 }
 
 static const char *const streams[] = {"deep", "surface", "missing"};
-static uint8_t stream[60000], page[WARPSORREL_PAGE], other_page[WARPSORREL_PAGE];
+/* The longest stream that has a page, and a byte more, which makes one that is too long. */
+#define STREAM 60000
+static uint8_t stream[STREAM + 1], page[WARPSORREL_PAGE], other_page[WARPSORREL_PAGE];
 
 /* 60,000 bytes of records of one kind. */
 static void take_stream(const char *which) {
     uint32_t kind = which == streams[0] ? 1 : which == streams[1] ? 2 : 3, body = kind == 1 ? 12 : kind == 2 ? 8 : 0;
     take_readings(waters[0]);
-    for (size_t at = 0, i = 0; at < sizeof stream; at += 4 + body, i++) {
+    for (size_t at = 0, i = 0; at < STREAM; at += 4 + body, i++) {
         uint8_t head[4] = {(uint8_t)body, 0, (uint8_t)kind, 0};
         float floats[3] = {readings[i].salinity, readings[i].temperature, readings[i].pressure};
         memcpy(stream + at, head, 4);
@@ -105,7 +107,11 @@ static uint64_t double_needle(int n) {
 #define PAGE(name, write) \
     static uint64_t name(int n) { \
         uint64_t sum = 0; \
-        for (int i = 0; i < n; i++) sum += write(stream, sizeof stream, page, sizeof page); \
+        for (int i = 0; i < n; i++) { \
+            size_t count; \
+            sum += write(stream, STREAM, page, sizeof page, &count); \
+            sum += count; \
+        } \
         return sum; \
     }
 PAGE(library_page, warpsorrel_page)
@@ -147,7 +153,16 @@ static int differs(const char *what, const char *data, int i) {
     return 1;
 }
 
+/* Whether the two pages of so many bytes differ, in a room of so many: refusal, count, bytes. */
+static int pages_differ(size_t length, size_t room) {
+    size_t one, two;
+    uint32_t refusal = warpsorrel_page(stream, length, page, room, &one);
+    return refusal != plain_page(stream, length, other_page, room, &two) || one != two || memcmp(page, other_page, one) != 0;
+}
+
 static int check(void) {
+    static const uint32_t kinds[] = {WARPSORREL_DEEP, WARPSORREL_SURFACE, WARPSORREL_MISSING, 4, WARPSORREL_CUT, WARPSORREL_UNKNOWN,
+                                     WARPSORREL_LENGTH};
     for (int d = 0; d < 3; d++) {
         take_readings(waters[d]);
         for (int i = 0; i < MOST; i++) {
@@ -159,15 +174,16 @@ static int check(void) {
             double off = double_density(r->s, r->t, r->p) - density / 1000.0;
             if (off > 0.0006 || off < -0.0006) return differs("reading in doubles", waters[d], i);
             int64_t one[3], two[3];
-            uint32_t kind = (uint32_t)draw(4) + 1;
+            uint32_t kind = kinds[draw(sizeof kinds / sizeof *kinds)];
             if (warpsorrel_needle(1, l->salinity, l->temperature, l->pressure, kind, r->salinity, r->temperature, r->pressure, one) !=
                     plain_needle(1, l->salinity, l->temperature, l->pressure, kind, r->salinity, r->temperature, r->pressure, two) ||
                 memcmp(one, two, sizeof one) != 0)
                 return differs("needle", waters[d], i);
         }
         take_stream(streams[d]);
-        size_t n = warpsorrel_page(stream, sizeof stream, page, sizeof page);
-        if (n != plain_page(stream, sizeof stream, other_page, sizeof other_page) || memcmp(page, other_page, n) != 0) return differs("page", streams[d], 0);
+        if (pages_differ(STREAM, sizeof page)) return differs("page", streams[d], 0);
+        if (pages_differ(STREAM, sizeof page - 1)) return differs("page refused", streams[d], 0);
+        if (pages_differ(STREAM + 1, sizeof page)) return differs("page too long", streams[d], 0);
     }
     printf("the library and plain C agree: %d readings, %d needles, 3 pages\n", 3 * MOST, 3 * MOST);
     return 0;

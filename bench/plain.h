@@ -9,7 +9,7 @@
 uint32_t plain_density(int64_t sigma, int64_t tau, int64_t pi);
 uint32_t plain_needle(uint32_t left_kind, float left_salinity, float left_temperature, float left_pressure, uint32_t right_kind,
                       float right_salinity, float right_temperature, float right_pressure, int64_t out[3]);
-size_t plain_page(const uint8_t *stream, size_t length, uint8_t *out, size_t room);
+uint32_t plain_page(const uint8_t *stream, size_t length, uint8_t *out, size_t room, size_t *count);
 
 /* The same file, compiled so that the root's search jumps on every digit. */
 uint32_t jump_density(int64_t sigma, int64_t tau, int64_t pi);

@@ -1,16 +1,18 @@
 /* Two waters compared, from C: every function of warpsorrel.h once or more. It prints capi/expected. */
+#include <inttypes.h>
 #include <stdio.h>
 #include <stdlib.h>
 #include <string.h>
 #include "warpsorrel.h"
 
-/* A probe's report and what the panel says of it. */
+/* A probe's report, or what stands for a record that gave none. */
 struct report {
     const char *name;
     uint32_t kind;
     float salinity, temperature, pressure;
 };
 
+/* What the panel says of a report, of two, and of a pair in a stream. */
 struct channel {
     uint32_t refusal;
     int64_t sigma, tau, pi, density, bulk;
@@ -19,6 +21,16 @@ struct channel {
 struct needle {
     uint32_t refusal;
     int64_t left, right, value;
+};
+
+struct side {
+    int64_t refusal, density, bulk;
+};
+
+struct pair {
+    uint32_t found;
+    struct side left, right;
+    int64_t needle_refusal, needle;
 };
 
 static struct channel channel_of(struct report r) {
@@ -33,35 +45,63 @@ static struct needle needle_of(struct report l, struct report r) {
     return (struct needle){refusal, out[0], out[1], out[2]};
 }
 
+static struct pair pair_of(const uint8_t *stream, size_t length, size_t before) {
+    int64_t out[8];
+    uint32_t found = warpsorrel_pair(stream, length, before, out);
+    return (struct pair){found, {out[0], out[1], out[2]}, {out[3], out[4], out[5]}, out[6], out[7]};
+}
+
 static void show_grid(int64_t sigma, int64_t tau, int64_t pi) {
-    printf("grid %lld %lld %lld: refusal %u, density %u, bulk modulus %u\n", (long long)sigma, (long long)tau, (long long)pi,
+    printf("grid %" PRId64 " %" PRId64 " %" PRId64 ": refusal %" PRIu32 ", density %" PRIu32 ", bulk modulus %" PRIu32 "\n", sigma, tau, pi,
            warpsorrel_refusal(sigma, tau, pi), warpsorrel_density(sigma, tau, pi), warpsorrel_bulk(sigma, tau, pi));
 }
 
 static void show_channel(struct report r) {
     struct channel c = channel_of(r);
-    printf("%s: refusal %u, grid %lld %lld %lld, density %lld, bulk modulus %lld\n", r.name, c.refusal, (long long)c.sigma, (long long)c.tau,
-           (long long)c.pi, (long long)c.density, (long long)c.bulk);
+    printf("%s: refusal %" PRIu32 ", grid %" PRId64 " %" PRId64 " %" PRId64 ", density %" PRId64 ", bulk modulus %" PRId64 "\n", r.name,
+           c.refusal, c.sigma, c.tau, c.pi, c.density, c.bulk);
 }
 
 static void show_needle(struct report l, struct report r) {
     struct needle n = needle_of(l, r);
-    printf("needle of %s, %s: refusal %u, densities %lld %lld, needle %lld\n", l.name, r.name, n.refusal, (long long)n.left, (long long)n.right,
-           (long long)n.value);
+    printf("needle of %s, %s: refusal %" PRIu32 ", densities %" PRId64 " %" PRId64 ", needle %" PRId64 "\n", l.name, r.name, n.refusal,
+           n.left, n.right, n.value);
 }
 
 static void show_recorder(uint32_t shown) {
     float value = warpsorrel_recorder(shown);
     uint32_t bits;
     memcpy(&bits, &value, sizeof bits);
-    printf("recorder %u: %.3f, bits %08x\n", shown, value, bits);
+    printf("recorder %" PRIu32 ": %.3f, bits %08" PRIx32 "\n", shown, value, bits);
+}
+
+/* room is WARPSORREL_LINE or less. */
+static void show_line(uint32_t number, struct report l, struct report r, size_t room) {
+    uint8_t out[WARPSORREL_LINE];
+    size_t count;
+    uint32_t refusal = warpsorrel_line(number, l.kind, l.salinity, l.temperature, l.pressure, r.kind, r.salinity, r.temperature, r.pressure,
+                                       out, room, &count);
+    printf("line %" PRIu32 " of %s, %s in a room of %zu: refusal %" PRIu32 ", %zu bytes\n", number, l.name, r.name, room, refusal, count);
+    fwrite(out, 1, count, stdout);
+}
+
+static void show_pair(const uint8_t *stream, size_t length, size_t before) {
+    struct pair p = pair_of(stream, length, before);
+    if (!p.found) {
+        printf("pair with %zu before it: none\n", before);
+        return;
+    }
+    printf("pair with %zu before it: left %" PRId64 " %" PRId64 " %" PRId64 ", right %" PRId64 " %" PRId64 " %" PRId64 ", needle %" PRId64
+           " %" PRId64 "\n", before, p.left.refusal, p.left.density, p.left.bulk, p.right.refusal, p.right.density, p.right.bulk,
+           p.needle_refusal, p.needle);
 }
 
 static void show_page(const uint8_t *stream, size_t length, size_t room) {
     uint8_t *out = malloc(room);
     if (out == NULL) exit(2);
-    size_t count = warpsorrel_page(stream, length, out, room);
-    printf("page in a room of %zu: %zu bytes\n", room, count);
+    size_t count;
+    uint32_t refusal = warpsorrel_page(stream, length, out, room, &count);
+    printf("page in a room of %zu: refusal %" PRIu32 ", %zu bytes\n", room, refusal, count);
     fwrite(out, 1, count, stdout);
     free(out);
 }
@@ -70,7 +110,10 @@ int main(void) {
     show_grid(35000, 25000, 100000);
     show_grid(42001, 25000, 100000);
 
-    const struct report fjord = {"fjord", 2, 28.5f, 12.25f, 0}, deep = {"deep", 1, 34.25f, 7.5f, 4}, brine = {"brine", 1, 42.25f, 7.5f, 4}, none = {"none", 3, 0, 0, 0};
+    const struct report fjord = {"fjord", WARPSORREL_SURFACE, 28.5f, 12.25f, 0};
+    const struct report deep = {"deep", WARPSORREL_DEEP, 34.25f, 7.5f, 4};
+    const struct report brine = {"brine", WARPSORREL_DEEP, 42.25f, 7.5f, 4};
+    const struct report none = {"none", WARPSORREL_MISSING, 0, 0, 0};
     show_channel(fjord);
     show_channel(deep);
     show_channel(brine);
@@ -81,9 +124,24 @@ int main(void) {
     show_recorder((uint32_t)channel_of(deep).density);
     show_recorder(16384000);
 
+    /* Records that gave no reading have a place on a line too. */
+    const struct report cut = {"cut", WARPSORREL_CUT, 0, 0, 0};
+    const struct report unknown = {"unknown", WARPSORREL_UNKNOWN, 0, 0, 0};
+    const struct report length = {"length", WARPSORREL_LENGTH, 0, 0, 0};
+    show_line(1, fjord, deep, WARPSORREL_LINE);
+    show_line(9999, deep, fjord, WARPSORREL_LINE);
+    show_line(2, fjord, cut, WARPSORREL_LINE);
+    show_line(3, length, deep, WARPSORREL_LINE);
+    show_line(4, unknown, none, WARPSORREL_LINE);
+    show_line(1, fjord, deep, WARPSORREL_LINE - 1);
+    show_line(10000, fjord, deep, WARPSORREL_LINE);
+    show_line(0, fjord, deep, WARPSORREL_LINE);
+
     static const uint8_t stream[] = {0x08, 0, 2, 0, 0, 0, 0, 0, 0, 0, 0xA0, 0x40, 0x08, 0, 2, 0, 0, 0, 0x0C, 0x42, 0, 0, 0xA0, 0x40,
                                      0x00, 0, 3, 0, 0x08, 0, 2, 0, 0, 0, 0, 0, 0, 0, 0xA0, 0x40};
-    printf("stream of %zu bytes: %zu pairs\n", sizeof stream, warpsorrel_pairs(stream, sizeof stream));
+    size_t pairs = warpsorrel_pairs(stream, sizeof stream);
+    printf("stream of %zu bytes: %zu pairs\n", sizeof stream, pairs);
+    for (size_t before = 0; before <= pairs; before++) show_pair(stream, sizeof stream, before);
     show_page(stream, sizeof stream, WARPSORREL_PAGE);
     show_page(stream, sizeof stream, WARPSORREL_PAGE - 1);
     return 0;

@@ -14,13 +14,23 @@ mod panel {
                 out: *mut [i64; 3],
             ) -> u32;
             pub fn warpsorrel_recorder(shown: u32) -> f32;
+            pub fn warpsorrel_line(
+                number: u32,
+                left_kind: u32, left_salinity: f32, left_temperature: f32, left_pressure: f32,
+                right_kind: u32, right_salinity: f32, right_temperature: f32, right_pressure: f32,
+                out: *mut u8, room: usize, count: *mut usize,
+            ) -> u32;
             pub fn warpsorrel_pairs(stream: *const u8, length: usize) -> usize;
-            pub fn warpsorrel_page(stream: *const u8, length: usize, out: *mut u8, room: usize) -> usize;
+            pub fn warpsorrel_pair(stream: *const u8, length: usize, before: usize, out: *mut [i64; 8]) -> u32;
+            pub fn warpsorrel_page(stream: *const u8, length: usize, out: *mut u8, room: usize, count: *mut usize) -> u32;
         }
     }
 
-    /// The longest page.
-    pub const PAGE: usize = 225_023;
+    /// The least room for a line.
+    pub const LINE: usize = 32;
+
+    /// The least room for a page, and the longest page there is.
+    pub const PAGE: usize = 118_916;
 
     /// A water's grid numbers: salinity in 0.001, temperature in 0.001 °C, pressure in 0.01 bar.
     #[derive(Clone, Copy)]
@@ -44,12 +54,15 @@ mod panel {
         }
     }
 
-    /// A probe's report.
+    /// A probe's report, or why its record gave none.
     #[derive(Clone, Copy)]
     pub enum Report {
         Deep { salinity: f32, temperature: f32, pressure: f32 },
         Surface { salinity: f32, temperature: f32 },
         Missing,
+        Cut,
+        UnknownKind,
+        WrongLength,
     }
 
     impl Report {
@@ -58,6 +71,9 @@ mod panel {
                 Report::Deep { salinity, temperature, pressure } => (1, salinity, temperature, pressure),
                 Report::Surface { salinity, temperature } => (2, salinity, temperature, 0.0),
                 Report::Missing => (3, 0.0, 0.0, 0.0),
+                Report::Cut => (65_542, 0.0, 0.0, 0.0),
+                Report::UnknownKind => (65_543, 0.0, 0.0, 0.0),
+                Report::WrongLength => (65_544, 0.0, 0.0, 0.0),
             }
         }
 
@@ -96,13 +112,51 @@ mod panel {
         unsafe { abi::warpsorrel_recorder(shown) }
     }
 
+    /// The bytes written at the start of a buffer that was lent, or the refusal.
+    fn written(refusal: u32, out: &[u8], count: usize) -> Result<&[u8], u32> {
+        if refusal == 0 { Ok(&out[..count]) } else { Err(refusal) }
+    }
+
+    /// Writes the sheet's line of two reports at the start of `out` and gives it.
+    pub fn line(number: u32, left: Report, right: Report, out: &mut [u8]) -> Result<&[u8], u32> {
+        let (l, r) = (left.parts(), right.parts());
+        let mut count = 0;
+        let refusal = unsafe {
+            abi::warpsorrel_line(number, l.0, l.1, l.2, l.3, r.0, r.1, r.2, r.3, out.as_mut_ptr(), out.len(), &mut count)
+        };
+        written(refusal, out, count)
+    }
+
     pub fn pairs(stream: &[u8]) -> usize {
         unsafe { abi::warpsorrel_pairs(stream.as_ptr(), stream.len()) }
     }
 
-    /// Writes the page at the start of `out` and gives its length.
-    pub fn page(stream: &[u8], out: &mut [u8]) -> usize {
-        unsafe { abi::warpsorrel_page(stream.as_ptr(), stream.len(), out.as_mut_ptr(), out.len()) }
+    pub struct Side {
+        pub refusal: i64,
+        pub density: i64,
+        pub bulk: i64,
+    }
+
+    pub struct Pair {
+        pub left: Side,
+        pub right: Side,
+        pub needle_refusal: i64,
+        pub needle: i64,
+    }
+
+    /// The pair of a stream with so many pairs before it, if there is one.
+    pub fn pair(stream: &[u8], before: usize) -> Option<Pair> {
+        let mut out = [0; 8];
+        let found = unsafe { abi::warpsorrel_pair(stream.as_ptr(), stream.len(), before, &mut out) };
+        let side = |at: usize| Side { refusal: out[at], density: out[at + 1], bulk: out[at + 2] };
+        (found == 1).then(|| Pair { left: side(0), right: side(3), needle_refusal: out[6], needle: out[7] })
+    }
+
+    /// Writes a stream's page at the start of `out` and gives it.
+    pub fn page<'a>(stream: &[u8], out: &'a mut [u8]) -> Result<&'a [u8], u32> {
+        let mut count = 0;
+        let refusal = unsafe { abi::warpsorrel_page(stream.as_ptr(), stream.len(), out.as_mut_ptr(), out.len(), &mut count) };
+        written(refusal, out, count)
     }
 }
 
@@ -127,11 +181,35 @@ fn show_recorder(shown: u32) {
     println!("recorder {}: {:.3}, bits {:08x}", shown, value, value.to_bits());
 }
 
+/// What was written, or the number that refused it.
+fn show_text(what: &str, room: usize, written: Result<&[u8], u32>) {
+    let (refusal, text) = match written {
+        Ok(text) => (0, text),
+        Err(refusal) => (refusal, &[][..]),
+    };
+    println!("{} in a room of {}: refusal {}, {} bytes", what, room, refusal, text.len());
+    print!("{}", std::str::from_utf8(text).expect("lines and pages are plain text"));
+}
+
+fn show_line(number: u32, left: (&str, Report), right: (&str, Report), room: usize) {
+    let mut out = vec![0; room];
+    show_text(&format!("line {} of {}, {}", number, left.0, right.0), room, panel::line(number, left.1, right.1, &mut out));
+}
+
+fn show_pair(stream: &[u8], before: usize) {
+    print!("pair with {} before it: ", before);
+    match panel::pair(stream, before) {
+        None => println!("none"),
+        Some(p) => println!(
+            "left {} {} {}, right {} {} {}, needle {} {}",
+            p.left.refusal, p.left.density, p.left.bulk, p.right.refusal, p.right.density, p.right.bulk, p.needle_refusal, p.needle
+        ),
+    }
+}
+
 fn show_page(stream: &[u8], room: usize) {
     let mut out = vec![0; room];
-    let count = panel::page(stream, &mut out);
-    println!("page in a room of {}: {} bytes", room, count);
-    print!("{}", std::str::from_utf8(&out[..count]).expect("a page is plain text"));
+    show_text("page", room, panel::page(stream, &mut out));
 }
 
 fn main() {
@@ -152,11 +230,28 @@ fn main() {
     show_recorder(deep.1.channel().density as u32);
     show_recorder(16_384_000);
 
+    // Records that gave no reading have a place on a line too.
+    let cut = ("cut", Report::Cut);
+    let unknown = ("unknown", Report::UnknownKind);
+    let length = ("length", Report::WrongLength);
+    show_line(1, fjord, deep, panel::LINE);
+    show_line(9_999, deep, fjord, panel::LINE);
+    show_line(2, fjord, cut, panel::LINE);
+    show_line(3, length, deep, panel::LINE);
+    show_line(4, unknown, none, panel::LINE);
+    show_line(1, fjord, deep, panel::LINE - 1);
+    show_line(10_000, fjord, deep, panel::LINE);
+    show_line(0, fjord, deep, panel::LINE);
+
     let stream = [
         0x08, 0, 2, 0, 0, 0, 0, 0, 0, 0, 0xA0, 0x40, 0x08, 0, 2, 0, 0, 0, 0x0C, 0x42, 0, 0, 0xA0, 0x40, //
         0x00, 0, 3, 0, 0x08, 0, 2, 0, 0, 0, 0, 0, 0, 0, 0xA0, 0x40,
     ];
-    println!("stream of {} bytes: {} pairs", stream.len(), panel::pairs(&stream));
+    let pairs = panel::pairs(&stream);
+    println!("stream of {} bytes: {} pairs", stream.len(), pairs);
+    for before in 0..=pairs {
+        show_pair(&stream, before);
+    }
     show_page(&stream, panel::PAGE);
     show_page(&stream, panel::PAGE - 1);
 }

@@ -1,5 +1,16 @@
-/* The panel's C ABI: link target/staticlib/libwarpsorrel.a, which `rt staticlib warpsorrel` writes. Every function answers every number
- * and every stream of bytes; nothing has to be checked first. A pointer points to as many numbers or bytes as its declaration says. */
+/* The panel's C ABI: link target/staticlib/libwarpsorrel.a, which `rt staticlib warpsorrel` writes.
+ *
+ * Every function answers every number, every float pattern and every stream of bytes: bad input is refused by number, and no value has to be
+ * checked first. What C cannot say in a declaration is asked of the caller all the same:
+ *   - a pointer points to as many bytes or numbers as its declaration or its length says; where a length is 0, it may be NULL;
+ *   - what a call is lent to write (out, count) overlaps nothing else that it is given;
+ *   - nobody else writes what a call reads or writes while it runs.
+ * The functions keep nothing between calls and allocate nothing, so that any number of threads may call them at once.
+ *
+ * No floating-point mode changes an answer: not the rounding mode, nor flush-to-zero or denormals-are-zero (as a program linked with
+ * -ffast-math sets them). Floats are compared with NaN and infinity and otherwise taken apart by their bits. The one exception is
+ * warpsorrel_recorder, which divides once, in the rounding mode that it finds; what it promises is to nearest, the mode that a program
+ * starts with. Floating-point exceptions are expected to be masked, as a program starts. */
 #ifndef WARPSORREL_H
 #define WARPSORREL_H
 
@@ -22,11 +33,18 @@ uint32_t warpsorrel_density(int64_t sigma, int64_t tau, int64_t pi);
 /* The secant bulk modulus in 0.01 bar, rounded down; 0 if refused. */
 uint32_t warpsorrel_bulk(int64_t sigma, int64_t tau, int64_t pi);
 
-/* ---- Reports: practical salinity, temperature in degrees C, pressure in bar above the atmosphere. The kind is a record's:
- * 1 deep, 2 surface (the pressure is taken as 0 and its float not read), 3 missing (no float is read). */
+/* ---- Reports: practical salinity, temperature in degrees C, pressure in bar above the atmosphere. The kind is a record's: deep, surface
+ * (the pressure is taken as 0 and its float not read), missing (no float is read). A record that gave no reading has a kind too, which no
+ * record has: CUT for refusal 6, LENGTH for refusal 8 (no float is read). Every other kind, UNKNOWN among them, is refused by 7, as a record's. */
+#define WARPSORREL_DEEP 1u
+#define WARPSORREL_SURFACE 2u
+#define WARPSORREL_MISSING 3u
+#define WARPSORREL_CUT 65542u
+#define WARPSORREL_UNKNOWN 65543u
+#define WARPSORREL_LENGTH 65544u
 
-/* 0, or the refusal: 1 missing, 2 a NaN or an infinity, 3, 4, 5 outside the range of the salinity, the temperature, the pressure;
- * 7 for any other kind. out gets sigma, tau, pi, the density and the bulk modulus; five noughts if refused. */
+/* 0, or the refusal: 6, 7, 8 by the kind, 1 missing, 2 a NaN or an infinity, 3, 4, 5 outside the range of the salinity, the temperature,
+ * the pressure. out gets sigma, tau, pi, the density and the bulk modulus; five noughts if refused. */
 uint32_t warpsorrel_channel(uint32_t kind, float salinity, float temperature, float pressure, int64_t out[5]);
 
 /* 0, or 100 plus the left's refusal, otherwise 200 plus the right's. out gets the left density and the right density (0 where
@@ -38,17 +56,32 @@ uint32_t warpsorrel_needle(uint32_t left_kind, float left_salinity, float left_t
 /* The recorder's float of a shown density, in kg/m3: shown / 1000 below 16,384,000, where it stands for shown alone; else 0. */
 float warpsorrel_recorder(uint32_t shown);
 
+/* The least room for a line. No line has more than 30 bytes. */
+#define WARPSORREL_LINE 32
+
+/* The sheet's line of two reports and a pair number, at the start of out: number, left density, right density, needle, a line feed; a refused
+ * place shows R and its number. 0, and count gets the bytes written; the bytes past them keep their values. Or the refusal: 30 for a room
+ * under WARPSORREL_LINE, then 31 for a pair number of 0 or over 9,999; count gets 0 then, and out is untouched. */
+uint32_t warpsorrel_line(uint32_t number,
+                         uint32_t left_kind, float left_salinity, float left_temperature, float left_pressure,
+                         uint32_t right_kind, float right_salinity, float right_temperature, float right_pressure,
+                         uint8_t *out, size_t room, size_t *count);
+
 /* ---- Streams of records, as the panel's probes write them (docs/FORMAT.md). */
 
 /* How many pairs a stream has. */
 size_t warpsorrel_pairs(const uint8_t *stream, size_t length);
 
-/* The longest page. */
-#define WARPSORREL_PAGE 225023
+/* The pair of a stream with so many pairs before it (0 for the sheet's pair 1): 1, and out gets refusal, density and bulk modulus of the left,
+ * then those of the right, then refusal and value of the needle. 0 where the stream has no such pair; out gets eight noughts then. */
+uint32_t warpsorrel_pair(const uint8_t *stream, size_t length, size_t before, int64_t out[8]);
 
-/* Writes the stream's page at the start of out and gives its length in bytes; the bytes past it keep their values. A room under
- * WARPSORREL_PAGE is refused: 0, and out is untouched. A stream over 60,000 bytes has the page "too long". */
-size_t warpsorrel_page(const uint8_t *stream, size_t length, uint8_t *out, size_t room);
+/* The least room for a page, and the longest page there is. */
+#define WARPSORREL_PAGE 118916
+
+/* The stream's page, at the start of out: 0, and count gets the bytes written; the bytes past them keep their values. Or the refusal 30 for a
+ * room under WARPSORREL_PAGE; count gets 0 then, and out is untouched. A stream over 60,000 bytes has the page "too long". */
+uint32_t warpsorrel_page(const uint8_t *stream, size_t length, uint8_t *out, size_t room, size_t *count);
 
 #ifdef __cplusplus
 }

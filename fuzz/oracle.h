@@ -1,13 +1,35 @@
-/* The page of a stream once more, from the definition: see oracle.c. */
+/* The answers about a stream once more, from the definition: see oracle.c. */
 #ifndef ORACLE_H
 #define ORACLE_H
 
 #include <stddef.h>
 #include <stdint.h>
 
+/* What stands in a channel, as the C ABI takes it: a kind, and floats by their bits. A float that is not to be read is a NaN. */
+struct oracle_report {
+    uint32_t kind, floats[3];
+};
+
+/* What a channel answers; noughts if refused. */
+struct oracle_channel {
+    uint32_t refusal;
+    int64_t sigma, tau, pi, density, bulk;
+};
+
+struct oracle_needle {
+    uint32_t refusal;
+    int64_t value;
+};
+
 size_t oracle_pairs(const uint8_t *stream, size_t length);
 
-/* out has room for the longest page. */
+/* The pair with so many before it, left then right; 0 where there is none. */
+int oracle_pair(const uint8_t *stream, size_t length, size_t before, struct oracle_report reports[2], struct oracle_channel channels[2]);
+
+struct oracle_needle oracle_needle(const struct oracle_channel channels[2]);
+
+/* out has room for the longest line, the longest page. */
+size_t oracle_line(uint32_t number, const struct oracle_channel channels[2], uint8_t *out);
 size_t oracle_page(const uint8_t *stream, size_t length, uint8_t *out);
 
 #endif

@@ -1,18 +1,22 @@
-/* Every input is a stream: the library's page and count of pairs have to be the oracle's, the bytes past the page have to keep their
- * values, and a room that is one byte short, or shorter, has to be left untouched. Called with --long, the input is repeated to about
- * 60,000 bytes, the length from which a stream is too long. */
+/* Every input is a stream. Held to the oracle: the count of pairs; the page, its refusal and its count; the first pair, the last, one past
+ * the end and two picked by the input's bytes, each by all its words; and channels, needle and line of such a pair's reports. The bytes and
+ * words past an answer and beside it have to keep their values; a room that is too short has to be left untouched. The rounding mode and
+ * flush-to-zero are the input's choice: they must change nothing. Called with --long, the input is repeated to about 60,000 bytes, the
+ * length from which a stream is too long. */
 #include <stdint.h>
 #include <stdio.h>
 #include <stdlib.h>
 #include <string.h>
+#include <xmmintrin.h>
 #include "oracle.h"
 #include "warpsorrel.h"
 
 #define KEPT 0xa5
 #define WINDOW 512
 
-/* The rooms lie between kept bytes. They hold KEPT throughout; what a page takes is put back after it is compared. */
+/* The rooms lie between kept bytes. They hold KEPT throughout; what a page or a line takes is put back after it is compared. */
 static uint8_t room[64 + WARPSORREL_PAGE + 64], short_room[64 + WARPSORREL_PAGE + 64], expected[WARPSORREL_PAGE + 64], repeated[60100];
+static uint8_t line_room[64 + 2 * WARPSORREL_LINE + 64];
 static int is_long;
 static uint64_t calls;
 static const uint8_t *now;
@@ -23,7 +27,7 @@ static void fail(const char *what) {
     fprintf(stderr, "differs after %llu executions: %s\n", (unsigned long long)calls, what);
     FILE *out = fopen("target/fuzz/difference", "wb");
     if (out != NULL) {
-        fwrite(now, 1, now_length, out);
+        if (now != NULL) fwrite(now, 1, now_length, out);
         fclose(out);
     }
     _Exit(1);
@@ -39,43 +43,148 @@ static void look_at_all(void) {
     if (!kept(short_room, sizeof short_room)) fail("a byte of a room that is too short");
 }
 
+/* ---- words lent to the library, between two others */
+
+#define UNTOUCHED INT64_C(0x5a5a5a5a5a5a5a5a)
+static int64_t words[10];
+static size_t counts[3];
+
+static int64_t *lend_words(void) {
+    for (int i = 0; i < 10; i++) words[i] = UNTOUCHED;
+    return words + 1;
+}
+
+static void compare_words(const char *what, const int64_t *right, size_t n) {
+    if (memcmp(words + 1, right, n * sizeof *right) != 0) fail(what);
+    if (words[0] != UNTOUCHED || words[n + 1] != UNTOUCHED) fail("a word beside those lent");
+}
+
+static size_t *lend_count(void) {
+    for (int i = 0; i < 3; i++) counts[i] = (size_t)UNTOUCHED;
+    return counts + 1;
+}
+
+static void compare_count(const char *what, size_t right) {
+    if (counts[1] != right) fail(what);
+    if (counts[0] != (size_t)UNTOUCHED || counts[2] != (size_t)UNTOUCHED) fail("a word beside the count");
+}
+
+/* ---- one pair */
+
+struct report {
+    uint32_t kind;
+    float salinity, temperature, pressure;
+};
+
+/* The bits as they are. An unknown kind is a record's own or, as often, the one that stands for all of them. */
+static struct report report_of(const struct oracle_report *from, uint32_t refusal) {
+    struct report to;
+    to.kind = refusal == 7 && calls % 2 == 0 ? WARPSORREL_UNKNOWN : from->kind;
+    memcpy(&to.salinity, &from->floats[0], 4);
+    memcpy(&to.temperature, &from->floats[1], 4);
+    memcpy(&to.pressure, &from->floats[2], 4);
+    return to;
+}
+
+static void look_at_line(uint32_t number, struct report l, struct report r, const struct oracle_channel channels[2], size_t lent) {
+    uint8_t right[64], *out = lent == 0 ? NULL : line_room + 64;
+    uint32_t refusal = lent < WARPSORREL_LINE ? 30 : number == 0 || number > 9999 ? 31 : 0;
+    size_t count = refusal ? 0 : oracle_line(number, channels, right);
+    if (warpsorrel_line(number, l.kind, l.salinity, l.temperature, l.pressure, r.kind, r.salinity, r.temperature, r.pressure, out, lent,
+                        lend_count()) != refusal)
+        fail("the refusal of the line");
+    compare_count("the count of the line", count);
+    if (count > 0 && memcmp(out, right, count) != 0) fail("the line");
+    if (count > 0) memset(out, KEPT, count);
+    if (!kept(line_room, sizeof line_room)) fail("a byte beside the line");
+}
+
+/* The line is written in a room of WARPSORREL_LINE and in one of lent bytes. */
+static void look_at_pair(const uint8_t *stream, size_t length, size_t before, uint32_t number, size_t lent) {
+    struct oracle_report reports[2];
+    struct oracle_channel c[2] = {{0, 0, 0, 0, 0, 0}, {0, 0, 0, 0, 0, 0}};
+    int found = oracle_pair(stream, length, before, reports, c);
+    struct oracle_needle n = oracle_needle(c);
+    int64_t right[8] = {c[0].refusal, c[0].density, c[0].bulk, c[1].refusal, c[1].density, c[1].bulk, n.refusal, n.value};
+    if (warpsorrel_pair(stream, length, before, lend_words()) != (uint32_t)found) fail("whether there is such a pair");
+    compare_words("a pair", right, 8);
+    if (!found) return;
+
+    struct report r[2];
+    for (int i = 0; i < 2; i++) {
+        r[i] = report_of(&reports[i], c[i].refusal);
+        int64_t channel[5] = {c[i].sigma, c[i].tau, c[i].pi, c[i].density, c[i].bulk};
+        uint32_t refusal = warpsorrel_channel(r[i].kind, r[i].salinity, r[i].temperature, r[i].pressure, lend_words());
+        if (refusal != c[i].refusal) fail("a channel's refusal");
+        compare_words("a channel", channel, 5);
+    }
+    int64_t needle[3] = {c[0].density, c[1].density, n.value};
+    uint32_t refusal = warpsorrel_needle(r[0].kind, r[0].salinity, r[0].temperature, r[0].pressure,
+                                         r[1].kind, r[1].salinity, r[1].temperature, r[1].pressure, lend_words());
+    if (refusal != n.refusal) fail("the needle's refusal");
+    compare_words("the needle", needle, 3);
+    look_at_line(number, r[0], r[1], c, WARPSORREL_LINE);
+    look_at_line(number, r[0], r[1], c, lent);
+}
+
 int LLVMFuzzerInitialize(int *argc, char ***argv) {
     for (int i = 1; i < *argc; i++) is_long |= strcmp((*argv)[i], "--long") == 0;
     memset(room, KEPT, sizeof room);
     memset(short_room, KEPT, sizeof short_room);
+    memset(line_room, KEPT, sizeof line_room);
     atexit(look_at_all);
     return 0;
 }
 
-int LLVMFuzzerTestOneInput(const uint8_t *stream, size_t length) {
+/* mixed depends on all of the input's bytes. */
+static void look_at_stream(const uint8_t *stream, size_t length, uint64_t mixed) {
     if (is_long) {
-        if (length == 0) return 0;
-        size_t sum = 0;
-        for (size_t i = 0; i < length; i++) sum += stream[i];
-        size_t wanted = 59992 + sum % 16;
+        if (length == 0) return;
+        size_t wanted = 59992 + mixed % 16;
         for (size_t i = 0; i < wanted; i++) repeated[i] = stream[i % length];
         stream = repeated;
         length = wanted;
     }
+    if (length == 0) stream = NULL; /* which the header allows */
     now = stream;
     now_length = length;
     calls++;
     size_t pairs = oracle_pairs(stream, length);
     if (warpsorrel_pairs(stream, length) != pairs) fail("the count of pairs");
 
-    size_t none = warpsorrel_page(stream, length, short_room + 64, WARPSORREL_PAGE - 1);
-    none += warpsorrel_page(stream, length, short_room + 64, (size_t)(calls * 40503 % WARPSORREL_PAGE));
-    if (none != 0) fail("bytes reported for a room that is too short");
+    /* pair numbers at an end of their range, where a digit more is, or anywhere; the last place is far past every end */
+    static const uint32_t ends[] = {0, 1, 9, 10, 99, 100, 999, 1000, 9999, 10000, UINT32_MAX};
+    uint32_t number = mixed >> 8 & 1 ? ends[(mixed >> 9) % (sizeof ends / sizeof *ends)] : (uint32_t)(mixed >> 16) % 10001;
+    size_t lent = (size_t)(mixed >> 40) % (2 * WARPSORREL_LINE + 1);
+    const size_t places[] = {0, pairs - (pairs > 0), pairs, (size_t)(mixed >> 32) % (pairs + 1), (size_t)mixed | SIZE_MAX / 2 + 1};
+    for (size_t i = 0; i < sizeof places / sizeof *places; i++) look_at_pair(stream, length, places[i], number, lent);
+
+    const size_t too_short[] = {WARPSORREL_PAGE - 1, (size_t)(calls * 40503 % WARPSORREL_PAGE), 0};
+    for (int i = 0; i < 3; i++) {
+        uint8_t *out = too_short[i] == 0 ? NULL : short_room + 64;
+        if (warpsorrel_page(stream, length, out, too_short[i], lend_count()) != 30) fail("no refusal of a room that is too short");
+        compare_count("bytes reported for a room that is too short", 0);
+    }
     if (!kept(short_room, WINDOW)) fail("a byte of a room that is too short");
 
     uint8_t *page = room + 64;
-    size_t count = warpsorrel_page(stream, length, page, WARPSORREL_PAGE);
-    size_t right = oracle_page(stream, length, expected);
-    if (count != right) fail("the length of the page");
+    size_t count = oracle_page(stream, length, expected);
+    if (warpsorrel_page(stream, length, page, WARPSORREL_PAGE, lend_count()) != 0) fail("a refusal of the page");
+    compare_count("the length of the page", count);
     if (memcmp(page, expected, count) != 0) fail("the page");
     memset(page, KEPT, count);
     if (!kept(page + count, WINDOW < WARPSORREL_PAGE - count ? WINDOW : WARPSORREL_PAGE - count)) fail("a byte past the page");
+    if (!kept(room, 64) || !kept(room + 64 + WARPSORREL_PAGE, 64)) fail("a byte beside the room");
     if (calls % 4096 == 0) look_at_all();
+}
+
+int LLVMFuzzerTestOneInput(const uint8_t *stream, size_t length) {
+    uint64_t mixed = 1469598103934665603u;
+    for (size_t i = 0; i < length; i++) mixed = (mixed ^ stream[i]) * 1099511628211u;
+    unsigned mode = _mm_getcsr();
+    _mm_setcsr((mode & ~0xe040u) | (unsigned)(mixed >> 24 & 7) << 13 | (unsigned)(mixed >> 27 & 1) << 6);
+    look_at_stream(stream, length, mixed);
+    _mm_setcsr(mode);
     return 0;
 }
 

@@ -4,3 +4,4 @@ pub mod Answers
 mod Walk
 pub mod Kth
 mod Example
+pub mod One

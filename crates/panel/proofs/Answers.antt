@@ -1,16 +1,18 @@
--- What a channel's answer says of what stands in it: accepted at the point that its report was put to, or refused for a listed
--- reason and no other. A point that passed its checks lies on the grid table, so that its water is known. Assumes nothing.
+-- What a channel's answer says of what stands in it: accepted at the point that its report was put to, or refused, exactly if there is
+-- a listed reason. A point that passed its checks lies on the grid table, so that its water is known. Assumes nothing.
 use Prim.Native.Nat.{ℕ}
-use mathlib.Core.Path.{_≡_, refl, sym, _∙_, subst}
+use mathlib.Core.Path.{_≡_, refl, sym, _∙_, subst, ap}
 use native.Mathlib.Omega.{arith}
 use Rattle.refusals.specs.declared.Refusal.{Refusal}
+use Rattle.refusals.specs.declared.Unread.{Unread}
+use Rattle.refusals.specs.Number.{refusalOf}
 use Rattle.readings.specs.declared.Point.{Point}
 use Rattle.readings.specs.declared.Report.{Report}
 use Rattle.readings.specs.declared.Reading.{Reading}
 use Rattle.readings.specs.declared.Given.{Given}
 use Rattle.readings.specs.declared.Checked.{Checked}
 use Rattle.readings.specs.Check.{givenOf, checkedOf}
-use Rattle.readings.specs.Answers.{OnGrid, Gridded, Reason}
+use Rattle.readings.proofs.Reasons.{OnGrid, Gridded, Reason}
 use Rattle.readings.proofs.Answers as reading
 use Rattle.sea.specs.declared.Water.{Water}
 use Rattle.sea.specs.Water.{waterOf}
@@ -24,7 +26,7 @@ pub data Case : Entry → Channel → Type 0 where
   accepted : (report : Report) (p : Point) (d k : ℕ) → checkedOf report ≡ Checked.Taken p → waterOf (p .sigma) (p .tau) (p .pi) ≡ Water.Known d k
       → Case (Entry.Reading report) (Channel.Accepted p d k)
   refused : (report : Report) (r : Refusal) → checkedOf report ≡ Checked.Refused r → Case (Entry.Reading report) (Channel.Refused r)
-  no-record : (r : Refusal) → Case (Entry.Refused r) (Channel.Refused r)
+  no-record : (u : Unread) → Case (Entry.Refused u) (Channel.Refused (refusalOf u))
 
 unknown : {d k : ℕ} {r : Refusal} → Water.Known d k ≡ Water.Refused r → ⊥
 unknown e = let z : _≡_ {A = ℕ} 0 1 = cc in omega arith
@@ -50,7 +52,7 @@ by-check report (Checked.Refused r) e = refused report r e
 pub case-of : (e : Entry) → Case e (channelOf e)
 unfolding channelOf
 case-of (Entry.Reading report) = by-check report (checkedOf report) refl
-case-of (Entry.Refused r) = no-record r
+case-of (Entry.Refused u) = no-record u
 
 -- ---- an accepted reading's point has the grid numbers of its floats
 pub accepted-gridded :
@@ -69,3 +71,8 @@ refused-only report r e = go (subst (Case (Entry.Reading report)) e (case-of (En
   where
     go : Case (Entry.Reading report) (Channel.Refused r) → Reason report r
     go (refused _ _ c) = reading.refused-only report r c
+
+-- and a reason is enough
+pub reason-refuses : {report : Report} {r : Refusal} → Reason report r → channelOf (Entry.Reading report) ≡ Channel.Refused r
+unfolding channelOf
+reason-refuses w = ap checkedChannel (reading.reason-refuses w)

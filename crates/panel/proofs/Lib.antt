@@ -2,3 +2,5 @@ pub mod Answers
 pub mod Sizes
 pub mod Needles
 pub mod Samples
+pub mod Cases
+pub mod One

@@ -9,7 +9,7 @@ use Rattle.readings.specs.declared.Point.{Point}
 use Rattle.readings.specs.declared.Entry.{Entry}
 use Rattle.panel.specs.declared.Channel.{Channel}
 use Rattle.panel.specs.declared.Needle.{Needle}
-use Rattle.panel.specs.Panel.{needleOf, pairOf}
+use Rattle.panel.specs.Panel.{needleOf, comparisonOf}
 
 turned : (a b : ℕ) → pos a -ℤ pos b ≡ negℤ (pos b -ℤ pos a)
 turned a b = let z = pos b -ℤ pos a in same (pos a -ℤ pos b) (negℤ z) (omega (arith, sub-is (pos a) (pos b), sub-is (pos b) (pos a), neg-plus z, neg-minus z))
@@ -48,10 +48,10 @@ value-accepted (Channel.Accepted p d k) (Channel.Refused s) z e = absurd (never 
 value-accepted (Channel.Refused s) r z e = absurd (never e)
 
 -- ---- each channel depends on its own reading only: whatever stands in the other one
-pub left-own : (l r r′ : Entry) → (pairOf l r) .left ≡ (pairOf l r′) .left
-unfolding pairOf
+pub left-own : (l r r′ : Entry) → (comparisonOf l r) .left ≡ (comparisonOf l r′) .left
+unfolding comparisonOf
 left-own l r r′ = refl
 
-pub right-own : (l l′ r : Entry) → (pairOf l r) .right ≡ (pairOf l′ r) .right
-unfolding pairOf
+pub right-own : (l l′ r : Entry) → (comparisonOf l r) .right ≡ (comparisonOf l′ r) .right
+unfolding comparisonOf
 right-own l l′ r = refl

@@ -1,7 +1,7 @@
 -- Document 01, "Refusal numbers and their order" and "Needle": a channel from what stands in it, the needle from two channels.
-use Prim.Native.Nat.{ℕ, _+_, _<_}
+use Prim.Native.Nat.{ℕ, _+_}
 use lib.IntN.{ℤ, pos, _-ℤ_}
-use Rattle.refusals.specs.Number.{numberOf}
+use Rattle.refusals.specs.Number.{numberOf, refusalOf}
 use Rattle.readings.specs.declared.Point.{Point}
 use Rattle.readings.specs.declared.Checked.{Checked}
 use Rattle.readings.specs.Check.{checkedOf}
@@ -10,7 +10,7 @@ use Rattle.sea.specs.Water.{waterOf}
 use Rattle.readings.specs.declared.Entry.{Entry}
 use Rattle.panel.specs.declared.Channel.{Channel}
 use Rattle.panel.specs.declared.Needle.{Needle}
-use Rattle.panel.specs.declared.Pair.{Pair}
+use Rattle.panel.specs.declared.Comparison.{Comparison}
 
 -- ---- a channel
 -- the water at a point of the grid
@@ -29,20 +29,20 @@ checkedChannel (Checked.Refused r) = Channel.Refused r
 -- each channel depends on what stands in it alone
 unfoldable pub channelOf : Entry → Channel
 channelOf (Entry.Reading report) = checkedChannel (checkedOf report)
-channelOf (Entry.Refused r) = Channel.Refused r
+channelOf (Entry.Refused u) = Channel.Refused (refusalOf u)
 
 -- the paper's number and values for each case: the refusal's number (0 for none), the shown density, the bulk modulus
-abbrev pub numberIn : Channel → ℕ
-numberIn (Channel.Accepted p d k) = 0
-numberIn (Channel.Refused r) = numberOf r
+abbrev pub channelNumber : Channel → ℕ
+channelNumber (Channel.Accepted p d k) = 0
+channelNumber (Channel.Refused r) = numberOf r
 
-abbrev pub densityIn : Channel → ℕ
-densityIn (Channel.Accepted p d k) = d
-densityIn (Channel.Refused r) = 0
+abbrev pub channelDensity : Channel → ℕ
+channelDensity (Channel.Accepted p d k) = d
+channelDensity (Channel.Refused r) = 0
 
-abbrev pub bulkIn : Channel → ℕ
-bulkIn (Channel.Accepted p d k) = k
-bulkIn (Channel.Refused r) = 0
+abbrev pub channelBulk : Channel → ℕ
+channelBulk (Channel.Accepted p d k) = k
+channelBulk (Channel.Refused r) = 0
 
 -- ---- the needle: shown density of the right, at its own pressure, minus that of the left, at its own; refused exactly if a
 -- channel is, by 100 plus the left's number if the left is refused, otherwise by 200 plus the right's
@@ -60,11 +60,6 @@ abbrev pub needleValue : Needle → ℤ
 needleValue (Needle.Value z) = z
 needleValue (Needle.Refused n) = pos 0
 
--- ---- a pair: left and right, each from what stands in it, and their needle
-unfoldable pub pairOf : Entry → Entry → Pair
-pairOf l r = record { left = channelOf l; right = channelOf r; needle = needleOf (channelOf l) (channelOf r) }
-
--- ---- a channel that shows a density of seven digits at most, as every channel does: `shown-small` of proofs/Sizes
-abbrev pub Small : Channel → Type 0
-Small (Channel.Accepted p d k) = d < 10_000_000
-Small (Channel.Refused r) = Unit {0}
+-- ---- a comparison: left and right, each from what stands in it, and their needle
+unfoldable pub comparisonOf : Entry → Entry → Comparison
+comparisonOf l r = record { left = channelOf l; right = channelOf r; needle = needleOf (channelOf l) (channelOf r) }

@@ -1,7 +1,7 @@
 // A channel from what stands in it, and the needle from two channels.
 ghost use mathlib.Core.Path.{_≡_};
 ghost use Rattle.floats.specs.Recorder.{recorderOf};
-ghost use Rattle.panel.specs.Panel.{numberIn, densityIn, bulkIn, needleNumber, needleValue, wateredOf, channelOf, needleOf, pairOf};
+ghost use Rattle.panel.specs.Panel.{channelNumber, channelDensity, channelBulk, needleNumber, needleValue, wateredOf, channelOf, needleOf, comparisonOf};
 use readings::Checked;
 use readings::Entry;
 use readings::Point;
@@ -21,7 +21,7 @@ pub enum Needle {
 }
 
 // Two channels and their needle.
-pub struct Pair {
+pub struct Comparison {
     pub left: Channel,
     pub right: Channel,
     pub needle: Needle,
@@ -30,7 +30,7 @@ pub struct Pair {
 // The paper's number and values for each case: a refused channel has noughts.
 impl Channel {
     pub fn number(self) -> u32
-        ensures { λ r. ⌜ r ≡ numberIn self ⌝ }
+        ensures { λ r. ⌜ r ≡ channelNumber self ⌝ }
     {
         match self {
             Channel::Accepted {
@@ -43,7 +43,7 @@ impl Channel {
     }
 
     pub fn density(self) -> u32
-        ensures { λ r. ⌜ r ≡ densityIn self ⌝ }
+        ensures { λ r. ⌜ r ≡ channelDensity self ⌝ }
     {
         match self {
             Channel::Accepted {
@@ -56,7 +56,7 @@ impl Channel {
     }
 
     pub fn bulk(self) -> u32
-        ensures { λ r. ⌜ r ≡ bulkIn self ⌝ }
+        ensures { λ r. ⌜ r ≡ channelBulk self ⌝ }
     {
         match self {
             Channel::Accepted {
@@ -70,7 +70,7 @@ impl Channel {
 
     // The float for the recorder.
     pub fn recorder(self) -> f32
-        ensures { λ r. ⌜ r ≡ recorderOf (densityIn self) ⌝ }
+        ensures { λ r. ⌜ r ≡ recorderOf (channelDensity self) ⌝ }
     {
         floats::recorder(self.density())
     }
@@ -112,7 +112,7 @@ pub fn answer(entry: Entry) -> Channel
     ensures { λ r. ⌜ r ≡ channelOf entry ⌝ }
 {
     match entry {
-        Entry::Refused(why) => Channel::Refused(why),
+        Entry::Refused(why) => Channel::Refused(why.refusal()),
         Entry::Reading(report) => match readings::check(report) {
             Checked::Refused(why) => Channel::Refused(why),
             Checked::Taken(at) => watered(at),
@@ -142,12 +142,12 @@ pub fn compare(left: Channel, right: Channel) -> Needle
 }
 
 // Both channels, each from what stands in it alone, and their needle.
-pub fn paired(left: Entry, right: Entry) -> Pair
-    ensures { λ r. ⌜ r ≡ pairOf left right ⌝ }
+pub fn paired(left: Entry, right: Entry) -> Comparison
+    ensures { λ r. ⌜ r ≡ comparisonOf left right ⌝ }
 {
     let l = answer(left);
     let r = answer(right);
-    Pair {
+    Comparison {
         left: l,
         right: r,
         needle: compare(l, r),

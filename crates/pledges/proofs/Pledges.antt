@@ -16,7 +16,7 @@ use Rattle.floats.specs.Grid.{gridNo, AtMost, Same}
 use Rattle.floats.proofs.Order.{grid-order, grid-same}
 use Rattle.readings.specs.declared.Reading.{Reading}
 use Rattle.readings.specs.declared.Point.{Point}
-use Rattle.readings.specs.Answers.{Gridded}
+use Rattle.readings.proofs.Reasons.{Gridded}
 use Rattle.readings.specs.declared.Entry.{Entry}
 use Rattle.panel.specs.declared.Channel.{Channel}
 use Rattle.panel.specs.declared.Needle.{Needle}
@@ -25,7 +25,7 @@ use Rattle.panel.proofs.Answers.{accepted-gridded}
 use Rattle.panel.proofs.Sizes.{accepted-shows, accepted-table}
 use Rattle.promises.specs.Promises.{OnGrid, Sample, Close}
 use Rattle.promises.proofs.Promises as promise
-use Rattle.pledges.specs.Pledges.{formulaAt, ShownWithin, StifferThanPressure, Shows, Saltier, Deeper, Sides, RightHeavier, LeftHeavier, NeedleWithin}
+use Rattle.pledges.specs.Pledges.{formulaAt, AnswerWithin, AnswerStiffer, Shows, SaltierReading, DeeperReading, Sides, NeedleToRight, NeedleToLeft, NeedleNear}
 
 -- an accepted channel's point, in the promises' words
 on-grid : (e : Entry) (p : Point) (d k : ℕ) → Channel.Accepted p d k ≡ channelOf e → OnGrid (plus (p .sigma)) (p .tau) (plus (p .pi))
@@ -36,11 +36,11 @@ on-grid e p d k h =
 shows : (e : Entry) (p : Point) (d k : ℕ) → Channel.Accepted p d k ≡ channelOf e → Shown (p .sigma) (p .tau) (p .pi) d k
 shows e p d k h = accepted-shows e p d k (sym h)
 
-pub shown-within : ShownWithin
+pub shown-within : AnswerWithin
 shown-within e p d k x h v =
     subst (λ (n : ℕ). Close n (formulaAt p x)) (sym (shows e p d k h .density-is)) (promise.within (plus (p .sigma)) (p .tau) (plus (p .pi)) x (on-grid e p d k h) v)
 
-pub stiffer-than-pressure : StifferThanPressure
+pub stiffer-than-pressure : AnswerStiffer
 stiffer-than-pressure e p d k h = shows e p d k h .bulk-low
 
 more : {a b : ℤ} → a ≤ℤ b → plus a ≤ plus b
@@ -74,7 +74,7 @@ number-same k u v m n e f h = e ∙ grid-same k u v h ∙ sym f
 number-order : (k : ℕ) (u v : Float) (m n : ℤ) → m ≡ gridNo k u → n ≡ gridNo k v → AtMost u v → m ≤ℤ n
 number-order k u v m n e f h = rw (e, f) (grid-order k u v h)
 
-pub saltier : Saltier
+pub saltier : SaltierReading
 saltier x y d c a b t p s =
     let g = gridded x d a in
     let h = gridded y c b in
@@ -83,7 +83,7 @@ saltier x y d c a b t p s =
     (number-same 100 (x .pressure) (y .pressure) _ _ (g .pi-is) (h .pi-is) p)
     (number-order 1000 (x .salinity) (y .salinity) _ _ (g .sigma-is) (h .sigma-is) s)
 
-pub deeper : Deeper
+pub deeper : DeeperReading
 deeper x y d c a b s t p =
     let g = gridded x d a in
     let h = gridded y c b in
@@ -109,14 +109,14 @@ module _ (p q : Point) (x y : Frac) (z : ℤ) (r : Sides p q x y z) where
       taken (r .needle-is ∙ rw (← r .left-is, ← r .right-is))
       ∙ ap₂ (λ (c d : ℕ). pos c -ℤ pos d) (shows (r .right) q (r .right-density) (r .right-bulk) (r .right-is) .density-is) (shows (r .left) p (r .left-density) (r .left-bulk) (r .left-is) .density-is)
 
-pub right-heavier : RightHeavier
+pub right-heavier : NeedleToRight
 unfolding left right
 right-heavier p q x y z r h = promise.right-heavier (left p q x y z r) (right p q x y z r) (rw (← needle-is p q x y z r) h)
 
-pub left-heavier : LeftHeavier
+pub left-heavier : NeedleToLeft
 unfolding left right
 left-heavier p q x y z r h = promise.left-heavier (left p q x y z r) (right p q x y z r) (rw (← needle-is p q x y z r) h)
 
-pub needle-within : NeedleWithin
+pub needle-within : NeedleNear
 unfolding left right
 needle-within p q x y z r = rw (needle-is p q x y z r) (promise.needle-within (left p q x y z r) (right p q x y z r))

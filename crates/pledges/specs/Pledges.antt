@@ -1,5 +1,5 @@
--- Demand 3 of what the public calls return. `panel::answer` returns a channel r with r ≡ channelOf e, and `panel::compare` a needle
--- n with n ≡ needleOf l r: so their contracts say, and so each statement here begins. Proved in proofs/Pledges.
+-- Demand 3 of what the panel's calls return: of a channel that `panel::answer` gives for what stands in it, and of the needle that `panel::compare`
+-- or `panel::paired` gives. Proved in proofs/Pledges, and in proofs/Calls once more from the contracts of these calls.
 use Prim.Native.Nat.{ℕ, _≤_, _<_}
 use mathlib.Core.Path.{_≡_}
 use lib.IntN.{ℤ, pos}
@@ -24,12 +24,12 @@ abbrev pub formulaAt : Point → Frac → Frac
 formulaAt p x = densityF (plus (p .sigma)) x (p .tau) (plus (p .pi))
 
 -- 1. a density that the panel shows is within 0.0006 kg/m³ of the formula's
-abbrev pub ShownWithin : Type 0
-ShownWithin = (e : Entry) (p : Point) (d k : ℕ) (x : Frac) → Channel.Accepted p d k ≡ channelOf e → Rooted (plus (p .sigma)) x → Close d (formulaAt p x)
+abbrev pub AnswerWithin : Type 0
+AnswerWithin = (e : Entry) (p : Point) (d k : ℕ) (x : Frac) → Channel.Accepted p d k ≡ channelOf e → Rooted (plus (p .sigma)) x → Close d (formulaAt p x)
 
 -- 2. a bulk modulus that it gives is above the pressure
-abbrev pub StifferThanPressure : Type 0
-StifferThanPressure = (e : Entry) (p : Point) (d k : ℕ) → Channel.Accepted p d k ≡ channelOf e → plus (p .pi) < k
+abbrev pub AnswerStiffer : Type 0
+AnswerStiffer = (e : Entry) (p : Point) (d k : ℕ) → Channel.Accepted p d k ≡ channelOf e → plus (p .pi) < k
 
 -- the panel shows the density d for a reading, whichever kind of report it came in
 pub record Shows (x : Reading) (d : ℕ) : Type 0 where
@@ -40,14 +40,14 @@ pub record Shows (x : Reading) (d : ℕ) : Type 0 where
   pub channel-is : Channel.Accepted point d bulk ≡ channelOf (Entry.Reading report)
 
 -- 3. at the same temperature and pressure saltier water never shows lighter: of the probes' own floats, before any rounding
-abbrev pub Saltier : Type 0
-Saltier =
+abbrev pub SaltierReading : Type 0
+SaltierReading =
     (x y : Reading) (d c : ℕ) → Shows x d → Shows y c →
     Same (x .temperature) (y .temperature) → Same (x .pressure) (y .pressure) → AtMost (x .salinity) (y .salinity) → d ≤ c
 
 -- 4. at the same salinity and temperature deeper water never shows lighter, likewise
-abbrev pub Deeper : Type 0
-Deeper =
+abbrev pub DeeperReading : Type 0
+DeeperReading =
     (x y : Reading) (d c : ℕ) → Shows x d → Shows y c →
     Same (x .salinity) (y .salinity) → Same (x .temperature) (y .temperature) → AtMost (x .pressure) (y .pressure) → d ≤ c
 
@@ -66,12 +66,12 @@ pub record Sides (p q : Point) (x y : Frac) (z : ℤ) : Type 0 where
   pub needle-is : Needle.Value z ≡ needleOf (channelOf left) (channelOf right)
 
 -- 5. a needle of 2 or more, either way, never names as heavier a water that the formula makes equal or lighter
-abbrev pub RightHeavier : Type 0
-RightHeavier = (p q : Point) (x y : Frac) (z : ℤ) → Sides p q x y z → pos 2 ≤ℤ z → ¬ (formulaAt q y ≤F formulaAt p x)
+abbrev pub NeedleToRight : Type 0
+NeedleToRight = (p q : Point) (x y : Frac) (z : ℤ) → Sides p q x y z → pos 2 ≤ℤ z → ¬ (formulaAt q y ≤F formulaAt p x)
 
-abbrev pub LeftHeavier : Type 0
-LeftHeavier = (p q : Point) (x y : Frac) (z : ℤ) → Sides p q x y z → z ≤ℤ neg 2 → ¬ (formulaAt p x ≤F formulaAt q y)
+abbrev pub NeedleToLeft : Type 0
+NeedleToLeft = (p q : Point) (x y : Frac) (z : ℤ) → Sides p q x y z → z ≤ℤ neg 2 → ¬ (formulaAt p x ≤F formulaAt q y)
 
 -- 6. a needle is within 0.0012 kg/m³ of the formula's difference
-abbrev pub NeedleWithin : Type 0
-NeedleWithin = (p q : Point) (x y : Frac) (z : ℤ) → Sides p q x y z → Within (over 12 10_000) z (formulaAt q y ⊖ formulaAt p x)
+abbrev pub NeedleNear : Type 0
+NeedleNear = (p q : Point) (x y : Frac) (z : ℤ) → Sides p q x y z → Within (over 12 10_000) z (formulaAt q y ⊖ formulaAt p x)

@@ -1,6 +1,6 @@
 -- What a reading on the grid hands to the laws: the root, the rows' boxes, the numbers' ranges, and how near its shown density
 -- is to the formula's. Assumes nothing.
-use Prim.Native.Nat.{ℕ, _+_, _*_, _≤_}
+use Prim.Native.Nat.{ℕ, _+_, _*_, _≤_, _<_}
 use native.Mathlib.Omega.{arith}
 use lib.IntN.{ℤ, pos}
 use Rattle.whole.specs.Arith.{Root}
@@ -37,6 +37,10 @@ module _ (σ : ℕ) (h : σ ≤ 42_000) where
 -- there is a fraction to put in place of √v
 pub rooted : (σ : ℕ) → Rooted σ (over (rootAt σ) 100_000)
 rooted σ = record { fraction = omega arith; low = to-≤F _ _ (omega arith); high = to-≤F _ _ (omega arith) }
+
+-- and every fraction from w/100,000 to (w + 1)/100,000 is one
+pub rooted-every : (σ : ℕ) (x : Frac) → 0 < x .den → over (rootAt σ) 100_000 ≤F x → x ≤F over (rootAt σ + 1) 100_000 → Rooted σ x
+rooted-every σ x a l h = record { fraction = a; low = l; high = h }
 
 -- each is the root or up to 1 more, in 10⁻⁵
 pub rooted-near : (σ : ℕ) (x : Frac) → Rooted σ x → Near 100_000 x (pos (rootAt σ)) 0 1

@@ -2,11 +2,13 @@
 use Prim.Native.Nat.{ℕ, suc, _≤_, _<_}
 use native.Mathlib.Omega.{arith}
 use lib.IntN.{ℤ, pos}
-use Rattle.whole.specs.Fraction.{Frac}
+use lib.Signed.{_≤ℤ_}
+use Rattle.whole.specs.Arith.{neg}
+use Rattle.whole.specs.Fraction.{Frac, units, _≤F_, _⊕_}
 use Rattle.whole.proofs.Ints.{of-≤ℤ, sub-is}
 use Rattle.sea.specs.Recipe.{rowsAt, rootAt, shownOf, shownAt, modulusAt}
 use Rattle.promises.specs.Formula.{densityF}
-use Rattle.promises.specs.Promises.{OnGrid, Rooted, panel, ShownWithin, StifferThanPressure, Saltier, Deeper, RightHeavier, LeftHeavier, NeedleWithin}
+use Rattle.promises.specs.Promises.{OnGrid, Rooted, Within, panel, ShownWithin, StifferThanPressure, Saltier, Deeper, RightHeavier, LeftHeavier, NeedleWithin}
 use Rattle.promises.proofs.Rise.{rising}
 use Rattle.promises.proofs.Pressure.{pressure-rising}
 use Rattle.promises.proofs.Salt.{salt-step}
@@ -41,6 +43,13 @@ left-heavier left right two =
 
 pub needle-within : NeedleWithin
 needle-within left right = difference-within (panel left) (panel right) (panel-near left) (panel-near right) (omega arith)
+
+-- ---- what the words say: within means on both sides, and every number of the grid table is on the grid
+pub within-both : (e : Frac) (n : ℤ) (f : Frac) → Within e n f → (f ≤F units 1_000 n ⊕ e) × (units 1_000 n ≤F f ⊕ e)
+within-both e n f w = (w .upper, w .lower)
+
+pub on-grid : (σ : ℕ) (τ : ℤ) (π : ℕ) → σ ≤ 42_000 → neg 2_000 ≤ℤ τ → τ ≤ℤ pos 40_000 → π ≤ 100_000 → OnGrid σ τ π
+on-grid σ τ π s c w d = record { salt = s; cold = c; warm = w; deep = d }
 
 -- ---- the ranges that other rooms use
 module _ {σ : ℕ} {τ : ℤ} {π : ℕ} (g : OnGrid σ τ π) where

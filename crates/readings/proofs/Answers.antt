@@ -1,6 +1,6 @@
--- A reading that is taken is on the grid, and one that is refused is refused for a listed reason: by following the checks in
+-- A reading that is taken is on the grid, and one is refused exactly if it has a listed reason: by following the checks in
 -- their order, and since a float inside its range has its grid number inside. Assumes nothing.
-use mathlib.Core.Path.{_≡_, refl, sym, _∙_, subst}
+use mathlib.Core.Path.{_≡_, refl, sym, _∙_, subst, ap₂}
 use mathlib.Core.Bool.{Bool, true, false, cond}
 use lib.Dec.{T}
 use lib.Signed.{_≤ℤ_}
@@ -10,7 +10,7 @@ use Rattle.floats.specs.Grid.{Range, inside, gridNo, placeOf}
 use Rattle.floats.specs.declared.Place.{Place}
 use Rattle.floats.proofs.Order.{grid-within}
 use Rattle.readings.specs.Check.{salinities, temperatures, pressures, deepOf, surfaceOf, givenOf, allFinite, firstOutside, placedOf, inOrder, checkedOf}
-use Rattle.readings.specs.Answers.{OnGrid, Gridded, Usable, Reason, missing, not-finite, salinity, temperature, pressure, Answered, taken, refused}
+use Rattle.readings.proofs.Reasons.{OnGrid, Gridded, Usable, Reason, missing, not-finite, salinity, temperature, pressure, Answered, taken, refused}
 use Rattle.readings.specs.declared.Report.{Report}
 use Rattle.readings.specs.declared.Reading.{Reading}
 use Rattle.readings.specs.declared.Point.{Point}
@@ -71,3 +71,21 @@ refused-only report x e = go (subst (Answered report) e (answered report))
   where
     go : Answered report (Checked.Refused x) → Reason report x
     go (refused r) = r
+
+-- and a reason is enough: each of them does refuse
+places : (r : Reading) (a b c : Bool) → inside salinities (r .salinity) ≡ a → inside temperatures (r .temperature) ≡ b → inside pressures (r .pressure) ≡ c
+    → placedOf r ≡ firstOutside (placed a salinities (r .salinity)) (placed b temperatures (r .temperature)) (placed c pressures (r .pressure))
+unfolding placedOf placeOf
+places r a b c s t p = cc
+
+usable : (report : Report) (r : Reading) → Usable report r → checkedOf report ≡ placedOf r
+unfolding checkedOf
+usable report r w = ap₂ inOrder (w .given) (w .finite)
+
+pub reason-refuses : {report : Report} {x : Refusal} → Reason report x → checkedOf report ≡ Checked.Refused x
+unfolding checkedOf
+reason-refuses missing = refl
+reason-refuses (not-finite r g f) = ap₂ inOrder g f
+reason-refuses {report} (salinity r w s) = usable report r w ∙ places r false _ _ s refl refl
+reason-refuses {report} (temperature r w s t) = usable report r w ∙ places r true false _ s t refl
+reason-refuses {report} (pressure r w s t p) = usable report r w ∙ places r true true false s t p

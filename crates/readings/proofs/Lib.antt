@@ -1,2 +1,5 @@
+pub mod Reasons
 pub mod Answers
+pub mod Entries
+pub mod One
 pub mod Samples

@@ -4,6 +4,7 @@ ghost use Rattle.readings.specs.Check.{surfaceOf, finiteOf, givenOf, pla
 use floats::Place;
 use floats::grid;
 use refusals::Refusal;
+use refusals::Unread;
 
 // A probe's report: salinity, temperature, pressure.
 pub enum Report {
@@ -12,10 +13,10 @@ pub enum Report {
     Missing,
 }
 
-// What stands in a channel: a probe's report, or the refusal of a record that gave none.
+// What stands in a channel: a probe's report, or why its record gave none: 6, 7 or 8 and no other number.
 pub enum Entry {
     Reading(Report),
-    Refused(Refusal),
+    Refused(Unread),
 }
 
 // Practical salinity, temperature in °C, pressure in bar above the atmosphere.

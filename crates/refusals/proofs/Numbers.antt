@@ -1,11 +1,13 @@
--- Refusal numbers: each is from 1 to 31, and no two refusals share one, since the number gives the refusal back. Assumes nothing.
+-- Refusal numbers: each is from 1 to 31, and no two refusals share one, since the number gives the refusal back. A record's are 6, 7
+-- and 8. Assumes nothing.
 use mathlib.Core.Path.{_≡_, refl, sym, ap, _∙_}
 use mathlib.Core.Bool.{cond}
 use Prim.Native.Nat.{ℕ, _<_, _≤_}
 use lib.Dec.{eqb, lit<, lit≤}
 use Rattle.refusals.specs.declared.Refusal.{Refusal}
 use Rattle.refusals.specs.declared.Refusal.the-variants.{Missing, NotFinite, Salinity, Temperature, Pressure, Cut, Kind, Length, Room, PairNumber}
-use Rattle.refusals.specs.Number.{numberOf}
+use Rattle.refusals.specs.declared.Unread.{Unread}
+use Rattle.refusals.specs.Number.{numberOf, refusalOf}
 
 pub number-range : (r : Refusal) → (0 < numberOf r) × (numberOf r ≤ 31)
 number-range Missing = (lit< tt, lit≤ tt)
@@ -19,8 +21,8 @@ number-range Length = (lit< tt, lit≤ tt)
 number-range Room = (lit< tt, lit≤ tt)
 number-range PairNumber = (lit< tt, lit≤ tt)
 
-refusalOf : ℕ → Refusal
-refusalOf n =
+refusalWith : ℕ → Refusal
+refusalWith n =
     cond (eqb n 1) Missing
     (cond (eqb n 2) NotFinite
     (cond (eqb n 3) Salinity
@@ -31,8 +33,8 @@ refusalOf n =
     (cond (eqb n 8) Length
     (cond (eqb n 30) Room PairNumber))))))))
 
-back : (r : Refusal) → refusalOf (numberOf r) ≡ r
-unfolding refusalOf
+back : (r : Refusal) → refusalWith (numberOf r) ≡ r
+unfolding refusalWith
 back Missing = refl
 back NotFinite = refl
 back Salinity = refl
@@ -45,4 +47,7 @@ back Room = refl
 back PairNumber = refl
 
 pub number-only : (r s : Refusal) → numberOf r ≡ numberOf s → r ≡ s
-number-only r s e = sym (back r) ∙ ap refusalOf e ∙ back s
+number-only r s e = sym (back r) ∙ ap refusalWith e ∙ back s
+
+pub unread-numbers : (numberOf (refusalOf Unread.Cut) ≡ 6) × ((numberOf (refusalOf Unread.Kind) ≡ 7) × (numberOf (refusalOf Unread.Length) ≡ 8))
+unread-numbers = (refl, (refl, refl))

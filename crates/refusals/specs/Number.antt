@@ -2,6 +2,7 @@
 use Prim.Native.Nat.{ℕ}
 use Rattle.refusals.specs.declared.Refusal.{Refusal}
 use Rattle.refusals.specs.declared.Refusal.the-variants.{Missing, NotFinite, Salinity, Temperature, Pressure, Cut, Kind, Length, Room, PairNumber}
+use Rattle.refusals.specs.declared.Unread.{Unread}
 
 abbrev pub numberOf : Refusal → ℕ
 -- the reading is missing
@@ -18,7 +19,13 @@ numberOf Cut = 6
 numberOf Kind = 7
 -- the record's length is not the kind's own
 numberOf Length = 8
--- the lent buffer has under 32 bytes
+-- the lent buffer is too small: under 32 bytes for a line, under the room asked for a page
 numberOf Room = 30
 -- the pair number is 0 or exceeds 9,999
 numberOf PairNumber = 31
+
+-- the three that a record is refused by, when it gives no reading: 6, 7 and 8
+abbrev pub refusalOf : Unread → Refusal
+refusalOf Unread.Cut = Cut
+refusalOf Unread.Kind = Kind
+refusalOf Unread.Length = Length

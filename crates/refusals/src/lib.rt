@@ -1,6 +1,6 @@
 // Why something is refused.
 ghost use mathlib.Core.Path.{_≡_};
-ghost use Rattle.refusals.specs.Number.{numberOf};
+ghost use Rattle.refusals.specs.Number.{numberOf, refusalOf};
 
 // One case for each number of document 01's list.
 pub enum Refusal {
@@ -31,6 +31,25 @@ impl Refusal {
             Refusal::Length => 8,
             Refusal::Room => 30,
             Refusal::PairNumber => 31,
+        }
+    }
+}
+
+// Why a record gave no reading: the three refusals that stand in a channel before any reading does.
+pub enum Unread {
+    Cut,
+    Kind,
+    Length,
+}
+
+impl Unread {
+    pub fn refusal(self) -> Refusal
+        ensures { λ r. ⌜ r ≡ refusalOf self ⌝ }
+    {
+        match self {
+            Unread::Cut => Refusal::Cut,
+            Unread::Kind => Refusal::Kind,
+            Unread::Length => Refusal::Length,
         }
     }
 }

@@ -1,5 +1,5 @@
 -- What an answer says of its grid numbers: a water is known exactly if all three lie in their ranges, and then it is the recipe's;
--- a refusal's number tells which of them does not. Assumes nothing.
+-- it is refused by a number exactly if the first of them outside its range is that number's. Assumes nothing.
 use Prim.Native.Nat.{ℕ, _≤_, _<_}
 use mathlib.Core.Path.{_≡_, refl, sym, _∙_, subst}
 use mathlib.Core.Bool.{Bool, true, false, cond}
@@ -12,8 +12,8 @@ use Rattle.refusals.specs.declared.Refusal.{Refusal}
 use Rattle.refusals.specs.declared.Refusal.the-variants.{Salinity, Temperature, Pressure}
 use Rattle.sea.specs.declared.Water.{Water}
 use Rattle.sea.specs.declared.Water.the-variants.{Known, Refused}
-use Rattle.sea.specs.declared.Range.{Range}
-use Rattle.sea.specs.declared.Range.the-variants.{Inside, Outside}
+use Rattle.sea.specs.declared.InRange.{InRange}
+use Rattle.sea.specs.declared.InRange.the-variants.{Inside, Outside}
 use Rattle.sea.specs.Recipe.{bulkOf, shownOf, shownAt, modulusAt, parcelOf, parcelAt}
 use Rattle.sea.specs.Sizes.{Lies}
 use Rattle.sea.specs.Water.{rangeOf, unless, waterOf}
@@ -45,7 +45,7 @@ known-on-table σ τ π t =
 apart : {r : Refusal} {d k : ℕ} → Refused r ≡ Known d k → ⊥
 apart e = let z : _≡_ {A = ℕ} 0 1 = cc in omega arith
 
-passed : (a b c : Range) (w : Water) {d k : ℕ} → unless a Salinity (unless b Temperature (unless c Pressure w)) ≡ Known d k → (a ≡ Inside) × ((b ≡ Inside) × (c ≡ Inside))
+passed : (a b c : InRange) (w : Water) {d k : ℕ} → unless a Salinity (unless b Temperature (unless c Pressure w)) ≡ Known d k → (a ≡ Inside) × ((b ≡ Inside) × (c ≡ Inside))
 passed Inside Inside Inside w e = (refl, (refl, refl))
 passed Inside Inside Outside w e = absurd (apart e)
 passed Inside Outside c w e = absurd (apart e)
@@ -120,10 +120,24 @@ pub refused-only : (σ τ π : ℤ) (r : Refusal) → waterOf σ τ π ≡ Refus
 unfolding waterOf
 refused-only σ τ π r e = go (rangeOf (pos 0) (pos 42_000) σ) (rangeOf (neg 2_000) (pos 40_000) τ) (rangeOf (pos 0) (pos 100_000) π) refl refl refl e
   where
-    go : (a b c : Range) → rangeOf (pos 0) (pos 42_000) σ ≡ a → rangeOf (neg 2_000) (pos 40_000) τ ≡ b → rangeOf (pos 0) (pos 100_000) π ≡ c →
+    go : (a b c : InRange) → rangeOf (pos 0) (pos 42_000) σ ≡ a → rangeOf (neg 2_000) (pos 40_000) τ ≡ b → rangeOf (pos 0) (pos 100_000) π ≡ c →
         unless a Salinity (unless b Temperature (unless c Pressure (Known (shownAt (plus σ) τ (plus π)) (modulusAt (plus σ) τ (plus π))))) ≡ Refused r → Reason σ τ π r
     go Outside b c p q s e = subst (Reason σ τ π) (same-refusal e) (salinity (outside-not (pos 0) (pos 42_000) σ p))
     go Inside Outside c p q s e = subst (Reason σ τ π) (same-refusal e) (temperature (inside-lies (pos 0) (pos 42_000) σ p) (outside-not (neg 2_000) (pos 40_000) τ q))
     go Inside Inside Outside p q s e =
         subst (Reason σ τ π) (same-refusal e) (pressure (inside-lies (pos 0) (pos 42_000) σ p) (inside-lies (neg 2_000) (pos 40_000) τ q) (outside-not (pos 0) (pos 100_000) π s))
     go Inside Inside Inside p q s e = absurd (unknown e)
+
+-- and a reason is enough
+not-outside : (lo hi z : ℤ) → ¬ (Lies lo hi z) → rangeOf lo hi z ≡ Outside
+not-outside lo hi z n = go (rangeOf lo hi z) refl
+  where
+    go : (x : InRange) → rangeOf lo hi z ≡ x → x ≡ Outside
+    go Outside e = refl
+    go Inside e = absurd (n (inside-lies lo hi z e))
+
+pub reason-refuses : (σ τ π : ℤ) {r : Refusal} → Reason σ τ π r → waterOf σ τ π ≡ Refused r
+unfolding waterOf
+reason-refuses σ τ π (salinity n) = rw (not-outside (pos 0) (pos 42_000) σ n)
+reason-refuses σ τ π (temperature s n) = rw (lies-inside (pos 0) (pos 42_000) σ s, not-outside (neg 2_000) (pos 40_000) τ n)
+reason-refuses σ τ π (pressure s t n) = rw (lies-inside (pos 0) (pos 42_000) σ s, lies-inside (neg 2_000) (pos 40_000) τ t, not-outside (pos 0) (pos 100_000) π n)

@@ -17,8 +17,8 @@ use Rattle.whole.proofs.Ints.{size-is, of-≤ℤ, below-minus, above-plus, pos-
 use Rattle.whole.proofs.Words.{word, fits-size, size-as}
 use Rattle.whole.proofs.Row.{pad, pad-row}
 use Rattle.whole.proofs.Roots.{root-is}
-use Rattle.sea.specs.declared.Range.{Range}
-use Rattle.sea.specs.declared.Range.the-variants.{Inside, Outside}
+use Rattle.sea.specs.declared.InRange.{InRange}
+use Rattle.sea.specs.declared.InRange.the-variants.{Inside, Outside}
 use Rattle.sea.specs.Table.{table}
 use Rattle.sea.specs.Recipe.{rowsAt, rootAt, A, B, bulk, bulkOf, parcelOf, parcelAt}
 use Rattle.sea.specs.Sizes.{Lies, Small, Salty, Stiff, Sizes, Ranges}
@@ -76,7 +76,7 @@ unfolding rangeOf
 inside-lies lo hi z e = let p = inside (leZ lo z) (leZ z hi) e in record { low = leZ-yes (p .0); high = leZ-yes (p .1) }
 
 -- of a number that was passed on, as the check's answer r was found to be x
-pub range-is : (lo hi : ℤ) {z : ℤ} {r x : Range} → SFits w64 z → r ≡ rangeOf lo hi (word z) → r ≡ x → rangeOf lo hi z ≡ x
+pub range-is : (lo hi : ℤ) {z : ℤ} {r x : InRange} → SFits w64 z → r ≡ rangeOf lo hi (word z) → r ≡ x → rangeOf lo hi z ≡ x
 range-is lo hi {z} f e g = ap (λ (y : ℤ). rangeOf lo hi y) (sym (toZ-ofZ w64 z f)) ∙ sym e ∙ g
 
 -- ---- the i-th row, as six coefficients, at a temperature of the grid

@@ -2,3 +2,5 @@ pub mod Points
 pub mod Sizes
 pub mod Grid
 pub mod Answers
+pub mod Cases
+pub mod One

@@ -9,16 +9,16 @@ use Rattle.refusals.specs.declared.Refusal.the-variants.{Salinity, Temperature,
 use Rattle.refusals.specs.Number.{numberOf}
 use Rattle.sea.specs.declared.Water.{Water}
 use Rattle.sea.specs.declared.Water.the-variants.{Known, Refused}
-use Rattle.sea.specs.declared.Range.{Range}
-use Rattle.sea.specs.declared.Range.the-variants.{Inside, Outside}
+use Rattle.sea.specs.declared.InRange.{InRange}
+use Rattle.sea.specs.declared.InRange.the-variants.{Inside, Outside}
 use Rattle.sea.specs.Recipe.{shownAt, modulusAt}
 
 -- z is from lo to hi, ends included
-unfoldable pub rangeOf : ℤ → ℤ → ℤ → Range
+unfoldable pub rangeOf : ℤ → ℤ → ℤ → InRange
 rangeOf lo hi z = cond (leZ lo z) (cond (leZ z hi) Inside Outside) Outside
 
 -- the first that applies is the answer
-abbrev pub unless : Range → Refusal → Water → Water
+abbrev pub unless : InRange → Refusal → Water → Water
 unless Inside r x = x
 unless Outside r x = Refused r
 
@@ -31,14 +31,14 @@ waterOf σ τ π =
     (Known (shownAt (plus σ) τ (plus π)) (modulusAt (plus σ) τ (plus π)))))
 
 -- the paper's number and values for each case: the refusal's number (0 for none), the shown density, the bulk modulus
-abbrev pub numberIn : Water → ℕ
-numberIn (Known d k) = 0
-numberIn (Refused r) = numberOf r
+abbrev pub waterNumber : Water → ℕ
+waterNumber (Known d k) = 0
+waterNumber (Refused r) = numberOf r
 
-abbrev pub densityIn : Water → ℕ
-densityIn (Known d k) = d
-densityIn (Refused r) = 0
+abbrev pub waterDensity : Water → ℕ
+waterDensity (Known d k) = d
+waterDensity (Refused r) = 0
 
-abbrev pub bulkIn : Water → ℕ
-bulkIn (Known d k) = k
-bulkIn (Refused r) = 0
+abbrev pub waterBulk : Water → ℕ
+waterBulk (Known d k) = k
+waterBulk (Refused r) = 0

@@ -5,7 +5,7 @@ ghost use Rattle.whole.specs.Arith.{neg, plus, scaled};
 ghost use Rattle.sea.specs.declared.Water.the-variants.{Known};
 ghost use Rattle.sea.specs.Recipe as the;
 ghost use Rattle.sea.specs.Sizes.{Lies, Sizes, Salty, Stiff, Ranges};
-ghost use Rattle.sea.specs.Water.{rangeOf, waterOf, numberIn, densityIn, bulkIn};
+ghost use Rattle.sea.specs.Water.{rangeOf, waterOf, waterNumber, waterDensity, waterBulk};
 use refusals::Refusal;
 
 // The answer for grid numbers: the shown density in 0.001 kg/m3 and the bulk modulus in 0.01 bar, or why not.
@@ -17,7 +17,7 @@ pub enum Water {
 // The paper's number and values for each case: a refused water has noughts.
 impl Water {
     pub fn number(self) -> u32
-        ensures { λ r. ⌜ r ≡ numberIn self ⌝ }
+        ensures { λ r. ⌜ r ≡ waterNumber self ⌝ }
     {
         match self {
             Water::Known {
@@ -29,7 +29,7 @@ impl Water {
     }
 
     pub fn density(self) -> u32
-        ensures { λ r. ⌜ r ≡ densityIn self ⌝ }
+        ensures { λ r. ⌜ r ≡ waterDensity self ⌝ }
     {
         match self {
             Water::Known { density, bulk: _ } => density,
@@ -38,7 +38,7 @@ impl Water {
     }
 
     pub fn bulk(self) -> u32
-        ensures { λ r. ⌜ r ≡ bulkIn self ⌝ }
+        ensures { λ r. ⌜ r ≡ waterBulk self ⌝ }
     {
         match self {
             Water::Known { density: _, bulk } => bulk,
@@ -48,7 +48,7 @@ impl Water {
 }
 
 // The answer of a range check.
-pub enum Range {
+pub enum InRange {
     Inside,
     Outside,
 }
@@ -219,28 +219,28 @@ fn pressed(x: Parcel, pi: i64) -> Water
 }
 
 // Whether z is from low to high, ends included.
-fn within(z: i64, low: i64, high: i64) -> Range
+fn within(z: i64, low: i64, high: i64) -> InRange
     ensures { λ r. ⌜ r ≡ rangeOf low high z ⌝ }
 {
     if low <= z {
         if z <= high {
-            return Range::Inside;
+            return InRange::Inside;
         }
     }
-    Range::Outside
+    InRange::Outside
 }
 
 // Density and bulk modulus at the grid numbers sigma (0.001), tau (0.001 degrees) and pi (0.01 bar).
 pub fn water_at(sigma: i64, tau: i64, pi: i64) -> Water
     ensures { λ r. ⌜ r ≡ waterOf sigma tau pi ⌝ }
 {
-    let Range::Inside = within(sigma, 0, 42000) else {
+    let InRange::Inside = within(sigma, 0, 42000) else {
         return Water::Refused(Refusal::Salinity);
     };
-    let Range::Inside = within(tau, -2000, 40000) else {
+    let InRange::Inside = within(tau, -2000, 40000) else {
         return Water::Refused(Refusal::Temperature);
     };
-    let Range::Inside = within(pi, 0, 100000) else {
+    let InRange::Inside = within(pi, 0, 100000) else {
         return Water::Refused(Refusal::Pressure);
     };
     pressed(parcel_at(sigma, tau), pi)

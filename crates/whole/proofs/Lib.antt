@@ -6,3 +6,4 @@ pub mod Interval
 pub mod Near
 pub mod Roots
 mod Shifts
+pub mod One

@@ -1,12 +1,16 @@
 -- `panel::answer` meets its contract: each arm is the definition's case. Assumes nothing.
 use mathlib.Core.Path.{sym, ap, _∙_}
 use borrow.Author.Needs.{needs}
+use Rattle.panel.specs.declared.Channel.{Channel}
 use Rattle.panel.specs.Panel.{checkedChannel, channelOf}
 use Rattle.panel.proofs.answer.Statement.{statement}
 use Rattle.panel.proofs.answer.Tie as tie
 
 enum-known-entry : tie.Need-enum-known-entry
 enum-known-entry c = search needs
+
+refusal-requires : tie.Need-refusal-requires
+refusal-requires c κs = search needs
 
 enum-known-entry-2 : tie.Need-enum-known-entry-2
 enum-known-entry-2 c = search needs
@@ -25,7 +29,7 @@ watered-requires c κs = search needs
 
 returns : tie.Need-returns
 unfolding channelOf
-returns c = sym (ap channelOf (c .before .entry .given .1))
+returns c = ap Channel.Refused (c .refusal .ensures) ∙ sym (ap channelOf (c .before .before .entry .given .1))
 
 returns-2 : tie.Need-returns-2
 unfolding channelOf
@@ -45,6 +49,7 @@ answer-spec =
     tie.close
     (tie.spec
     enum-known-entry
+    refusal-requires
     enum-known-entry-2
     check-requires
     enum-known-why

@@ -1,6 +1,6 @@
 -- `panel::paired` meets its contract: each channel is its own entry's answer. Assumes nothing.
 use borrow.Author.Needs.{needs}
-use Rattle.panel.specs.Panel.{pairOf}
+use Rattle.panel.specs.Panel.{comparisonOf}
 use Rattle.panel.proofs.paired.Statement.{statement}
 use Rattle.panel.proofs.paired.Tie as tie
 
@@ -14,7 +14,7 @@ compare-requires : tie.Need-compare-requires
 compare-requires c κs = search needs
 
 returns : tie.Need-returns
-unfolding pairOf
+unfolding comparisonOf
 returns c = rw (c .compare .ensures, c .before .before .answer .ensures, c .before .answer2 .ensures)
 
 pub paired-spec : {M : Type 1} → statement M

@@ -8,8 +8,8 @@ use mir.ValLaws.{toZ-ofZ}
 use Rattle.whole.specs.Arith.{neg, plus}
 use Rattle.refusals.specs.declared.Refusal.the-variants.{Salinity, Temperature, Pressure}
 use Rattle.sea.specs.declared.Water.the-variants.{Known}
-use Rattle.sea.specs.declared.Range.{Range}
-use Rattle.sea.specs.declared.Range.the-variants.{Inside}
+use Rattle.sea.specs.declared.InRange.{InRange}
+use Rattle.sea.specs.declared.InRange.the-variants.{Inside}
 use Rattle.sea.specs.Recipe.{bulk, shown, hundredths, bulkOf, shownOf, shownAt, modulusAt, parcelOf, parcelAt}
 use Rattle.sea.specs.Sizes.{Lies}
 use Rattle.sea.specs.Water.{rangeOf, unless, waterOf}
@@ -18,7 +18,7 @@ use Rattle.sea.proofs.water_at.Statement.{statement}
 use Rattle.sea.proofs.water_at.Tie as tie
 
 -- the answer by what the three checks found
-by-ranges : (σ τ π : ℤ) {a b c : Range} → rangeOf (pos 0) (pos 42_000) σ ≡ a → rangeOf (neg 2_000) (pos 40_000) τ ≡ b → rangeOf (pos 0) (pos 100_000) π ≡ c →
+by-ranges : (σ τ π : ℤ) {a b c : InRange} → rangeOf (pos 0) (pos 42_000) σ ≡ a → rangeOf (neg 2_000) (pos 40_000) τ ≡ b → rangeOf (pos 0) (pos 100_000) π ≡ c →
     unless a Salinity (unless b Temperature (unless c Pressure (Known (shownAt (plus σ) τ (plus π)) (modulusAt (plus σ) τ (plus π))))) ≡ waterOf σ τ π
 unfolding waterOf
 by-ranges σ τ π p q r = rw (← p, ← q, ← r)

@@ -5,7 +5,7 @@ use lib.Seq.{sets}
 use mir.Syntax.{w64}
 use mir.ValLaws.{toZ-ofZ}
 use Rattle.panel.specs.declared.Channel.{Channel}
-use Rattle.panel.specs.Panel.{numberIn, channelOf}
+use Rattle.panel.specs.Panel.{channelNumber, channelOf}
 use Rattle.warpsorrel.specs.Abi.{entryOf, channelWords}
 use Rattle.warpsorrel.proofs.Words.{small-word}
 use Rattle.warpsorrel.proofs.warpsorrel_channel.Statement.{statement}
@@ -73,7 +73,7 @@ returns c =
     let g = c .struct-told3 .given in
     let t = c .before .before .before .known-told .given in
     let p = k .channel .given .0 .0 in (
-      ap numberIn e,
+      ap channelNumber e,
       rw (
         toZ-ofZ w64 (p .sigma) (record { sfits = g .0 .1 }),
         toZ-ofZ w64 (p .tau) (record { sfits = g .1 .0 .1 }),
@@ -89,7 +89,7 @@ returns-2 c =
     let k = c .before .before in
     let a = k .before .before in
     let e = sym (k .channel2 .given .1) ∙ channel-is a in
-    (c .number .ensures ∙ ap numberIn e, ap (λ (x : Channel). sets (a .before .before .args .out .now) 0 (channelWords x)) e)
+    (c .number .ensures ∙ ap channelNumber e, ap (λ (x : Channel). sets (a .before .before .args .out .now) 0 (channelWords x)) e)
 
 pub warpsorrel-channel-spec : {M : Type 1} → statement M
 warpsorrel-channel-spec =

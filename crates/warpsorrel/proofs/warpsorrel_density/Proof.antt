@@ -1,7 +1,7 @@
 -- `warpsorrel_density` meets its contract: it hands on what `sea::water_at` answers. Assumes nothing.
 use mathlib.Core.Path.{ap, _∙_}
 use borrow.Author.Needs.{needs}
-use Rattle.sea.specs.Water.{densityIn}
+use Rattle.sea.specs.Water.{waterDensity}
 use Rattle.warpsorrel.proofs.Words.{water-is}
 use Rattle.warpsorrel.proofs.warpsorrel_density.Statement.{statement}
 use Rattle.warpsorrel.proofs.warpsorrel_density.Tie as tie
@@ -15,7 +15,7 @@ density-requires c κs = search needs
 returns : tie.Need-returns
 returns c =
     let b = c .before .before in
-    c .density .ensures ∙ ap densityIn (c .before .water-at .ensures ∙ water-is (b .fits .sigma) (b .fits .tau) (b .fits .pi))
+    c .density .ensures ∙ ap waterDensity (c .before .water-at .ensures ∙ water-is (b .fits .sigma) (b .fits .tau) (b .fits .pi))
 
 pub warpsorrel-density-spec : {M : Type 1} → statement M
 warpsorrel-density-spec = tie.close (tie.spec water-at-requires density-requires returns)

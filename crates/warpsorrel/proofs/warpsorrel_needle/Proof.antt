@@ -4,18 +4,18 @@ use borrow.Author.Needs.{needs}
 use lib.Seq.{sets}
 use mir.Syntax.{w64}
 use mir.ValLaws.{toZ-ofZ}
-use Rattle.panel.specs.declared.Pair.{Pair}
-use Rattle.panel.specs.Panel.{needleNumber, pairOf}
-use Rattle.warpsorrel.specs.Abi.{entryOf, pairWords}
+use Rattle.panel.specs.declared.Comparison.{Comparison}
+use Rattle.panel.specs.Panel.{needleNumber, comparisonOf}
+use Rattle.warpsorrel.specs.Abi.{entryOf, comparisonWords}
 use Rattle.warpsorrel.proofs.Words.{small-word}
 use Rattle.warpsorrel.proofs.warpsorrel_needle.Statement.{statement}
 use Rattle.warpsorrel.proofs.warpsorrel_needle.Tie as tie
 
 pair-is : (c : tie.After-paired) → let a = c .before .before .before .args in
     c .paired .result
-    ≡ pairOf (entryOf (a .left-kind) (a .left-salinity) (a .left-temperature) (a .left-pressure))
+    ≡ comparisonOf (entryOf (a .left-kind) (a .left-salinity) (a .left-temperature) (a .left-pressure))
     (entryOf (a .right-kind) (a .right-salinity) (a .right-temperature) (a .right-pressure))
-pair-is c = c .paired .ensures ∙ ap₂ pairOf (c .before .before .entry-of .ensures) (c .before .entry-of2 .ensures)
+pair-is c = c .paired .ensures ∙ ap₂ comparisonOf (c .before .before .entry-of .ensures) (c .before .entry-of2 .ensures)
 
 entry-of-requires : tie.Need-entry-of-requires
 entry-of-requires c κs = search needs
@@ -60,7 +60,7 @@ returns c =
     let l = r .before in
     let q = l .before in
     let e = pair-is q in (
-      c .number .ensures ∙ ap (λ (x : Pair). needleNumber (x .needle)) e,
+      c .number .ensures ∙ ap (λ (x : Comparison). needleNumber (x .needle)) e,
       rw (
         small-word (l .density .result) (l .density .ok),
         small-word (r .density2 .result) (r .density2 .ok),
@@ -69,7 +69,7 @@ returns c =
         r .density2 .ensures,
         v .value .ensures,
       )
-          (ap (λ (x : Pair). sets (q .before .before .before .args .out .now) 0 (pairWords x)) e),
+          (ap (λ (x : Comparison). sets (q .before .before .before .args .out .now) 0 (comparisonWords x)) e),
     )
 
 pub warpsorrel-needle-spec : {M : Type 1} → statement M

@@ -1,0 +1,119 @@
+-- Demand 3 of what a caller gets: each pledge once more, from the contracts of `panel::answer`, `panel::compare` and `panel::paired` themselves.
+-- `Learnt` is a contract as the checker reads it off the source: it says all that a caller is told of the arguments a, the answer and the
+-- state after the call. A dropped or weakened clause breaks these laws. Assumes nothing.
+use Prim.Native.Nat.{ℕ, _≤_, _<_}
+use mathlib.Core.Path.{_≡_, sym, ap, ap₂, _∙_}
+use contract.Lifetimes
+use lib.IntN.{ℤ, pos}
+use lib.Signed.{_≤ℤ_}
+use Rattle.whole.specs.Arith.{neg, plus}
+use Rattle.whole.specs.Fraction.{Frac, over, _≤F_, _⊖_}
+use Rattle.floats.specs.Grid.{AtMost, Same}
+use Rattle.readings.specs.declared.Report.{Report}
+use Rattle.readings.specs.declared.Reading.{Reading}
+use Rattle.readings.specs.declared.Given.{Given}
+use Rattle.readings.specs.declared.Point.{Point}
+use Rattle.readings.specs.declared.Entry.{Entry}
+use Rattle.readings.specs.Check.{givenOf}
+use Rattle.panel.specs.declared.Channel.{Channel}
+use Rattle.panel.specs.declared.Needle.{Needle}
+use Rattle.panel.specs.declared.Comparison.{Comparison}
+use Rattle.panel.specs.Panel.{channelOf, needleOf, comparisonOf}
+use Rattle.panel.proofs.answer.Reads as answer
+use Rattle.panel.proofs.compare.Reads as compare
+use Rattle.panel.proofs.paired.Reads as paired
+use Rattle.promises.specs.Promises.{Rooted, Within, Close}
+use Rattle.pledges.specs.Pledges.{formulaAt, Shows, Sides}
+use Rattle.pledges.proofs.Pledges as pledge
+
+-- ---- one call of `answer`, whose answer r is an accepted channel
+module _ (κs : Lifetimes.Lfts 0) (a : _) (r : _) (s : _) (told : answer.Learnt κs a r s) (p : Point) (d k : ℕ) (is : Channel.Accepted p d k ≡ r) where
+  -- 1. the density that it shows is within 0.0006 kg/m³ of the formula's, at the point that it gives
+  pub shown-within : (x : Frac) → Rooted (plus (p .sigma)) x → Close d (formulaAt p x)
+  shown-within x v = pledge.shown-within (a .0) p d k x (is ∙ told) v
+
+  -- 2. the bulk modulus is above the pressure
+  pub stiffer-than-pressure : plus (p .pi) < k
+  stiffer-than-pressure = pledge.stiffer-than-pressure (a .0) p d k (is ∙ told)
+
+  -- what it shows, of the floats that it was given
+  pub shows : (report : Report) (x : Reading) → a .0 ≡ Entry.Reading report → givenOf report ≡ Given.Reading x → Shows x d
+  shows report x e g = record { report = report; reading-is = g; point = p; bulk = k; channel-is = is ∙ told ∙ ap channelOf e }
+
+-- ---- two calls of `answer`, and one of `compare` on what they answered
+module _
+    (κs κs′ κs″ : Lifetimes.Lfts 0) (a b c : _) (l r n : _) (s t u : _)
+    (left : answer.Learnt κs a l s) (right : answer.Learnt κs′ b r t) (needle : compare.Learnt κs″ c n u) (from-left : c .0 ≡ l) (from-right : c .1 .0 ≡ r)
+    (p q : Point) (d k d′ k′ : ℕ) (l-is : Channel.Accepted p d k ≡ l) (r-is : Channel.Accepted q d′ k′ ≡ r) (z : ℤ) (n-is : Needle.Value z ≡ n)
+    (x y : Frac) (v : Rooted (plus (p .sigma)) x) (w : Rooted (plus (q .sigma)) y) where
+  sides : Sides p q x y z
+  sides =
+      record {
+        left = a .0;
+        right = b .0;
+        left-density = d;
+        left-bulk = k;
+        right-density = d′;
+        right-bulk = k′;
+        left-is = l-is ∙ left;
+        right-is = r-is ∙ right;
+        left-root = v;
+        right-root = w;
+        needle-is = n-is ∙ needle ∙ ap₂ needleOf (from-left ∙ left) (from-right ∙ right);
+      }
+
+  -- 5. a needle of 2 or more, either way, never names as heavier a water that the formula makes equal or lighter
+  pub right-heavier : pos 2 ≤ℤ z → ¬ (formulaAt q y ≤F formulaAt p x)
+  right-heavier = pledge.right-heavier p q x y z sides
+
+  pub left-heavier : z ≤ℤ neg 2 → ¬ (formulaAt p x ≤F formulaAt q y)
+  left-heavier = pledge.left-heavier p q x y z sides
+
+  -- 6. a needle is within 0.0012 kg/m³ of the formula's difference
+  pub needle-within : Within (over 12 10_000) z (formulaAt q y ⊖ formulaAt p x)
+  needle-within = pledge.needle-within p q x y z sides
+
+-- ---- one call of `paired`
+module _
+    (κs : Lifetimes.Lfts 0) (a : _) (r : _) (s : _) (told : paired.Learnt κs a r s)
+    (p q : Point) (d k d′ k′ : ℕ) (l-is : Channel.Accepted p d k ≡ r .left) (r-is : Channel.Accepted q d′ k′ ≡ r .right) (z : ℤ) (n-is : Needle.Value z ≡ r .needle)
+    (x y : Frac) (v : Rooted (plus (p .sigma)) x) (w : Rooted (plus (q .sigma)) y) where
+  paired-sides : Sides p q x y z
+  unfolding comparisonOf
+  paired-sides =
+      record {
+        left = a .0;
+        right = a .1 .0;
+        left-density = d;
+        left-bulk = k;
+        right-density = d′;
+        right-bulk = k′;
+        left-is = l-is ∙ ap (λ (m : Comparison). m .left) told;
+        right-is = r-is ∙ ap (λ (m : Comparison). m .right) told;
+        left-root = v;
+        right-root = w;
+        needle-is = n-is ∙ ap (λ (m : Comparison). m .needle) told;
+      }
+
+  pub paired-right-heavier : pos 2 ≤ℤ z → ¬ (formulaAt q y ≤F formulaAt p x)
+  paired-right-heavier = pledge.right-heavier p q x y z paired-sides
+
+  pub paired-left-heavier : z ≤ℤ neg 2 → ¬ (formulaAt p x ≤F formulaAt q y)
+  paired-left-heavier = pledge.left-heavier p q x y z paired-sides
+
+  pub paired-needle-within : Within (over 12 10_000) z (formulaAt q y ⊖ formulaAt p x)
+  paired-needle-within = pledge.needle-within p q x y z paired-sides
+
+-- ---- two calls of `answer` on readings x and y
+module _
+    (κs κs′ : Lifetimes.Lfts 0) (a b : _) (l r : _) (s t : _) (first : answer.Learnt κs a l s) (second : answer.Learnt κs′ b r t)
+    (p q : Point) (d k d′ k′ : ℕ) (l-is : Channel.Accepted p d k ≡ l) (r-is : Channel.Accepted q d′ k′ ≡ r)
+    (f g : Report) (x y : Reading) (a-is : a .0 ≡ Entry.Reading f) (b-is : b .0 ≡ Entry.Reading g)
+    (x-is : givenOf f ≡ Given.Reading x) (y-is : givenOf g ≡ Given.Reading y) where
+  -- 3. at the same temperature and pressure saltier water never shows lighter
+  pub saltier : Same (x .temperature) (y .temperature) → Same (x .pressure) (y .pressure) → AtMost (x .salinity) (y .salinity) → d ≤ d′
+  saltier = pledge.saltier x y d d′ (shows κs a l s first p d k l-is f x a-is x-is) (shows κs′ b r t second q d′ k′ r-is g y b-is y-is)
+
+  -- 4. at the same salinity and temperature deeper water never shows lighter
+  pub deeper : Same (x .salinity) (y .salinity) → Same (x .temperature) (y .temperature) → AtMost (x .pressure) (y .pressure) → d ≤ d′
+  deeper = pledge.deeper x y d d′ (shows κs a l s first p d k l-is f x a-is x-is) (shows κs′ b r t second q d′ k′ r-is g y b-is y-is)

@@ -1,0 +1,20 @@
+-- One answer: two answers that a contract allows are equal. `Learnt` is the contract itself, as the checker reads it off the source, so that a
+-- dropped clause breaks these laws. Assumes nothing.
+use mathlib.Core.Path.{_≡_, sym, _∙_}
+use contract.Lifetimes
+use Rattle.readings.proofs.Report.reading.Reads as reading
+use Rattle.readings.proofs.Reading.surface.Reads as surface
+use Rattle.readings.proofs.Reading.finite.Reads as finite
+use Rattle.readings.proofs.check.Reads as check
+
+pub one-reading : (κs : Lifetimes.Lfts 0) (a : _) (r r′ : _) (s s′ : _) → reading.Learnt κs a r s → reading.Learnt κs a r′ s′ → r ≡ r′
+one-reading κs a r r′ s s′ e f = e ∙ sym f
+
+pub one-surface : (κs : Lifetimes.Lfts 0) (a : _) (r r′ : _) (s s′ : _) → surface.Learnt κs a r s → surface.Learnt κs a r′ s′ → r ≡ r′
+one-surface κs a r r′ s s′ e f = e ∙ sym f
+
+pub one-finite : (κs : Lifetimes.Lfts 0) (a : _) (r r′ : _) (s s′ : _) → finite.Learnt κs a r s → finite.Learnt κs a r′ s′ → r ≡ r′
+one-finite κs a r r′ s s′ e f = e ∙ sym f
+
+pub one-check : (κs : Lifetimes.Lfts 0) (a : _) (r r′ : _) (s s′ : _) → check.Learnt κs a r s → check.Learnt κs a r′ s′ → r ≡ r′
+one-check κs a r r′ s s′ e f = e ∙ sym f

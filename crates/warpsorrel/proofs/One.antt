@@ -1,0 +1,65 @@
+-- One answer: two answers that a contract allows are equal, and so is afterwards everything that was lent. `Learnt` is the contract itself, as
+-- the checker reads it off the source, so that a dropped clause breaks these laws. Assumes nothing.
+use mathlib.Core.Path.{_≡_, sym, ap, _∙_}
+use Prim.Native.Nat.{ℕ}
+use contract.Lifetimes
+use Rattle.lines.specs.Line.{lineOf, written}
+use Rattle.pages.specs.Page.{pageOf}
+use Rattle.warpsorrel.specs.Abi.{entryOf}
+use Rattle.warpsorrel.proofs.warpsorrel_refusal.Reads as refusal
+use Rattle.warpsorrel.proofs.warpsorrel_density.Reads as density
+use Rattle.warpsorrel.proofs.warpsorrel_bulk.Reads as bulk
+use Rattle.warpsorrel.proofs.warpsorrel_channel.Reads as channel
+use Rattle.warpsorrel.proofs.warpsorrel_needle.Reads as needle
+use Rattle.warpsorrel.proofs.warpsorrel_recorder.Reads as recorder
+use Rattle.warpsorrel.proofs.warpsorrel_pairs.Reads as pairs
+use Rattle.warpsorrel.proofs.warpsorrel_pair.Reads as pair
+use Rattle.warpsorrel.proofs.warpsorrel_line.Reads as line
+use Rattle.warpsorrel.proofs.warpsorrel_page.Reads as page
+
+pub one-refusal : (κs : Lifetimes.Lfts 0) (a : _) (r r′ : _) (s s′ : _) → refusal.Learnt κs a r s → refusal.Learnt κs a r′ s′ → r ≡ r′
+one-refusal κs a r r′ s s′ e f = e ∙ sym f
+
+pub one-density : (κs : Lifetimes.Lfts 0) (a : _) (r r′ : _) (s s′ : _) → density.Learnt κs a r s → density.Learnt κs a r′ s′ → r ≡ r′
+one-density κs a r r′ s s′ e f = e ∙ sym f
+
+pub one-bulk : (κs : Lifetimes.Lfts 0) (a : _) (r r′ : _) (s s′ : _) → bulk.Learnt κs a r s → bulk.Learnt κs a r′ s′ → r ≡ r′
+one-bulk κs a r r′ s s′ e f = e ∙ sym f
+
+pub one-recorder : (κs : Lifetimes.Lfts 0) (a : _) (r r′ : _) (s s′ : _) → recorder.Learnt κs a r s → recorder.Learnt κs a r′ s′ → r ≡ r′
+one-recorder κs a r r′ s s′ e f = e ∙ sym f
+
+pub one-pairs : (κs : Lifetimes.Lfts 1) (a : _) (r r′ : _) (s s′ : _) → pairs.Learnt κs a r s → pairs.Learnt κs a r′ s′ → r ≡ r′
+one-pairs κs a r r′ s s′ e f = e ∙ sym f
+
+pub one-channel :
+    (κs : Lifetimes.Lfts 1) (a : _) (r r′ : _) (s s′ : _) → channel.Learnt κs a r s → channel.Learnt κs a r′ s′ →
+    (r ≡ r′) × (s .1 .1 .1 .1 .0 .now ≡ s′ .1 .1 .1 .1 .0 .now)
+one-channel κs a r r′ s s′ e f = (e .0 ∙ sym (f .0), e .1 ∙ sym (f .1))
+
+pub one-needle :
+    (κs : Lifetimes.Lfts 1) (a : _) (r r′ : _) (s s′ : _) → needle.Learnt κs a r s → needle.Learnt κs a r′ s′ →
+    (r ≡ r′) × (s .1 .1 .1 .1 .1 .1 .1 .1 .0 .now ≡ s′ .1 .1 .1 .1 .1 .1 .1 .1 .0 .now)
+one-needle κs a r r′ s s′ e f = (e .0 ∙ sym (f .0), e .1 ∙ sym (f .1))
+
+pub one-pair :
+    (κs : Lifetimes.Lfts 2) (a : _) (r r′ : _) (s s′ : _) → pair.Learnt κs a r s → pair.Learnt κs a r′ s′ →
+    (r ≡ r′) × (s .1 .1 .0 .now ≡ s′ .1 .1 .0 .now)
+one-pair κs a r r′ s s′ e f = (e .0 ∙ sym (f .0), e .1 ∙ sym (f .1))
+
+-- a text at the start of out, and its bytes in count
+pub one-line :
+    (κs : Lifetimes.Lfts 2) (a : _) (r r′ : _) (s s′ : _) → line.Learnt κs a r s → line.Learnt κs a r′ s′ →
+    (r ≡ r′) × ((s .1 .1 .1 .1 .1 .1 .1 .1 .1 .1 .0 .now ≡ s′ .1 .1 .1 .1 .1 .1 .1 .1 .1 .1 .0 .now) × (s .1 .1 .1 .1 .1 .1 .1 .1 .1 .0 .now ≡ s′ .1 .1 .1 .1 .1 .1 .1 .1 .1 .0 .now))
+one-line κs a r r′ s s′ e f =
+    let count = e .1 .0 ∙ sym (f .1 .0) in
+    let left = entryOf (a .1 .0) (a .1 .1 .0) (a .1 .1 .1 .0) (a .1 .1 .1 .1 .0) in
+    let right = entryOf (a .1 .1 .1 .1 .1 .0) (a .1 .1 .1 .1 .1 .1 .0) (a .1 .1 .1 .1 .1 .1 .1 .0) (a .1 .1 .1 .1 .1 .1 .1 .1 .0) in
+    (e .0 ∙ sym (f .0), (count, e .1 .1 ∙ ap (λ (n : ℕ). written n (lineOf (a .0) left right) (a .1 .1 .1 .1 .1 .1 .1 .1 .1 .0 .now)) count ∙ sym (f .1 .1)))
+
+pub one-page :
+    (κs : Lifetimes.Lfts 3) (a : _) (r r′ : _) (s s′ : _) → page.Learnt κs a r s → page.Learnt κs a r′ s′ →
+    (r ≡ r′) × ((s .1 .1 .0 .now ≡ s′ .1 .1 .0 .now) × (s .1 .0 .now ≡ s′ .1 .0 .now))
+one-page κs a r r′ s s′ e f =
+    let count = e .1 .0 ∙ sym (f .1 .0) in
+    (e .0 ∙ sym (f .0), (count, e .1 .1 ∙ ap (λ (n : ℕ). written n (pageOf (a .0 .now)) (a .1 .0 .now)) count ∙ sym (f .1 .1)))

@@ -1,0 +1,279 @@
+#!/usr/bin/env python3
+"""Holds the 41 coefficients, to the last unit, to what is printed.
+
+    python3 tests/coefficients.py
+
+The definition (crates/sea/specs/Table.antt) and the code (ROWS in crates/sea/src/lib.rt) are proved to agree, and checked at nine
+points. A coefficient that is wrong in both, below its printed digits, would pass all that. So both are read here and compared,
+exactly, with document 01's decimals and with UNESCO's, each typed in on its own. Then both are changed in memory, one place at a
+time, to see that the comparison would notice.
+"""
+import itertools
+import re
+import sys
+from fractions import Fraction
+from pathlib import Path
+
+ROOT = Path(__file__).resolve().parent.parent
+TABLE = ROOT / "crates/sea/specs/Table.antt"
+CODE = ROOT / "crates/sea/src/lib.rt"
+
+# Document 01, on the common scale: u is degrees C/100, v is salinity/100, q is bar/1,000; lowest power of u first.
+DOCUMENT = """
+Dw 999.842594 6.793952 -90.95290 100.1685 -112.0083 65.36332
+Ds 82.4493 -40.899 76.438 -82.467 53.875
+Dr -5.72466 10.227 -16.546
+Dss 4.8314
+Kw 19652.21 14842.06 -23271.05 13604.77 -5155.288
+Ks 5467.46 -6034.59 10998.7 -6167.0
+Kr 79.44 1648.3 -5300.9
+Aw 3239.908 143.713 1160.92 -577.905
+As 228.38 -109.81 -1607.8
+Ar 191.075
+Bw 85.0935 -612.293 527.87
+Bs -99.348 208.16 916.97
+"""
+
+# UNESCO Technical Papers in Marine Science 38 and 44, on their own scale: practical salinity, degrees C, bar. After the name stand twice
+# the power of the salinity and the power of the pressure that the row is multiplied by.
+PAPERS = """
+Dw 0 0 999.842594 6.793952e-2 -9.095290e-3 1.001685e-4 -1.120083e-6 6.536332e-9
+Ds 2 0 8.24493e-1 -4.0899e-3 7.6438e-5 -8.2467e-7 5.3875e-9
+Dr 3 0 -5.72466e-3 1.0227e-4 -1.6546e-6
+Dss 4 0 4.8314e-4
+Kw 0 0 19652.21 148.4206 -2.327105 1.360477e-2 -5.155288e-5
+Ks 2 0 54.6746 -0.603459 1.09987e-2 -6.1670e-5
+Kr 3 0 7.944e-2 1.6483e-2 -5.3009e-4
+Aw 0 1 3.239908 1.43713e-3 1.16092e-4 -5.77905e-7
+As 2 1 2.2838e-3 -1.0981e-5 -1.6078e-6
+Ar 3 1 1.91075e-4
+Bw 0 2 8.50935e-5 -6.12293e-6 5.2787e-8
+Bs 2 2 -9.9348e-7 2.0816e-8 9.1697e-10
+"""
+
+NAMES = "Dw Ds Dr Dss Kw Ks Kr Aw As Ar Bw Bs".split()
+LENGTHS = [6, 5, 3, 1, 5, 4, 3, 4, 3, 1, 3, 3]
+WIDTH = 6  # a row of the code, with its noughts
+
+
+class Unreadable(Exception):
+    pass
+
+
+def need(condition, what):
+    if not condition:
+        raise Unreadable(what)
+
+
+def typed(text, powers):
+    """name -> (powers, decimals)"""
+    rows = {name: (tuple(map(int, words[:powers])), words[powers:]) for name, *words in map(str.split, text.split("\n")[1:-1])}
+    need(list(rows) == NAMES and [len(decimals) for _, decimals in rows.values()] == LENGTHS, "this test's own tables have other rows")
+    return rows
+
+
+def by_document():
+    """The decimals as printed, row by row."""
+    return [decimals for _, decimals in typed(DOCUMENT, 0).values()]
+
+
+def by_papers():
+    """In units of 10^-9 on the common scale: t is 100 u, S is 100 v, P is 1,000 q."""
+    return [
+        [Fraction(c) * 100**i * 10**halves * 1_000**pressure * 10**9 for i, c in enumerate(decimals)]
+        for (halves, pressure), decimals in typed(PAPERS, 2).values()
+    ]
+
+
+# ---- what the sources say; comments are blanked, so that places in the text stay the same
+
+
+def blanked(text, mark):
+    return re.sub(re.escape(mark) + ".*", lambda found: " " * len(found.group()), text)
+
+
+# What makes a whole number of a printed decimal: these lines, as they are.
+NOTATION = (
+    "digits /10^ places = pos (digits * 10 ^ (9 - places))",
+    "- digits /10^ places = neg (digits * 10 ^ (9 - places))",
+)
+DECIMAL = r"(?:- )?[0-9]+_[0-9]+ /10\^ [0-9]"
+
+
+def table_rows(text):
+    """The definition's rows, in the order of its table of tables: for each coefficient where it stands in the text."""
+    text = blanked(text, "--")
+    lines = text.split("\n")
+    for line in NOTATION:
+        need(lines.count(line) == 1, "Table.antt: what /10^ stands for")
+    rows = {}
+    for found in re.finditer(r"^(\w+) = (.*)$", text, re.M):
+        name, body = found.groups()
+        need(name not in rows, f"Table.antt: {name} stands twice")
+        kind = "List (List ℤ)" if name == "table" else "List ℤ"
+        need(lines.count(f"unfoldable pub {name} : {kind}") == 1, f"Table.antt: {name} is not declared")
+        rows[name] = found.start(2), body
+    need("table" in rows, "Table.antt: no table")
+    order = rows.pop("table")[1].split(" ∷ ")
+    need(order == NAMES + ["[]"] and sorted(rows) == sorted(NAMES), "Table.antt: other rows, or in another order")
+    spans = []
+    for name in NAMES:
+        start, body = rows[name]
+        need(re.fullmatch(rf"(?:{DECIMAL} ∷ )+\[\]", body) is not None, f"Table.antt: {name} is no list of decimals")
+        spans.append([(start + c.start(), start + c.end()) for c in re.finditer(DECIMAL, body)])
+    need([len(row) for row in spans] == LENGTHS, "Table.antt: a row has another length")
+    return spans
+
+
+def decimal(text):
+    """What a coefficient of the definition says: the decimal that it stands for, as printed, and its units of 10^-9."""
+    sign, whole, fraction, places = re.fullmatch(r"(- )?([0-9]+)_([0-9]+) /10\^ ([0-9])", text).groups()
+    number = int(whole + fraction) * 10 ** (9 - int(places))
+    # the point is where _ is only if so many digits follow
+    printed = f"{'-' if sign else ''}{whole}.{fraction}" if len(fraction) == int(places) else f"{text} with its point elsewhere"
+    return printed, -number if sign else number
+
+
+def code_rows(text):
+    """The code's rows, noughts and all: for each number where it stands in the text."""
+    text = blanked(text, "//")
+    found = re.findall(r"\bROWS\b *:", text), re.search(r"^const ROWS: \[\[i64; 6\]; 12\] = \[\n(.*?)\n\];$", text, re.M | re.S)
+    need(len(found[0]) == 1 and found[1], "lib.rt: no array ROWS of twelve rows of six")
+    start, body = found[1].start(1), found[1].group(1)
+    array = r"\s*\[(?:\s*-?[0-9]+\s*,)*\s*-?[0-9]+,?\s*\],"
+    need(re.fullmatch(rf"(?:{array})*", body) is not None, "lib.rt: ROWS is no array of arrays of numbers")
+    spans = [
+        [(start + row.start() + c.start(), start + row.start() + c.end()) for c in re.finditer(r"-?[0-9]+", row.group())]
+        for row in re.finditer(r"\[[^\]]*\]", body)
+    ]
+    need([len(row) for row in spans] == [WIDTH] * len(NAMES), "lib.rt: ROWS has other rows")
+    return spans
+
+
+def differences(table_text, code_text):
+    """What is not as printed: (source, compared with, row, place), or a source that cannot be read."""
+    document, papers, wrong = by_document(), by_papers(), set()
+    try:
+        for row, spans in enumerate(table_rows(table_text)):
+            for i, (start, end) in enumerate(spans):
+                printed, number = decimal(table_text[start:end])
+                if printed != document[row][i]:
+                    wrong.add(("Table.antt", "the digits printed", NAMES[row], i))
+                if number != Fraction(document[row][i]) * 10**9:
+                    wrong.add(("Table.antt", "document 01", NAMES[row], i))
+                if number != papers[row][i]:
+                    wrong.add(("Table.antt", "UNESCO's papers", NAMES[row], i))
+    except Unreadable as why:
+        wrong.add(("Table.antt", str(why), "", 0))
+    try:
+        for row, spans in enumerate(code_rows(code_text)):
+            for i, (start, end) in enumerate(spans):
+                number, past = int(code_text[start:end]), i >= LENGTHS[row]
+                if number != (0 if past else Fraction(document[row][i]) * 10**9):
+                    wrong.add(("ROWS", "document 01", NAMES[row], i))
+                if number != (0 if past else papers[row][i]):
+                    wrong.add(("ROWS", "UNESCO's papers", NAMES[row], i))
+    except Unreadable as why:
+        wrong.add(("ROWS", str(why), "", 0))
+    return wrong
+
+
+# ---- changes, in the definition and in the code together
+
+
+def put(text, changes):
+    """The text with other words at some places."""
+    for (start, end), words in sorted(changes, reverse=True):
+        text = text[:start] + words + text[end:]
+    return text
+
+
+def nine_places(units):
+    whole, fraction = divmod(abs(units), 10**9)
+    return f"{'- ' if units < 0 else ''}{whole}_{fraction:09} /10^ 9"
+
+
+def changed_numbers(table, code):
+    """Each coefficient one unit of 10^-9 higher, one lower, and with its sign turned: all of the exact comparisons have to see it."""
+    exact = list(itertools.product(("Table.antt", "ROWS"), ("document 01", "UNESCO's papers")))
+    table_spans, code_spans = table_rows(table), code_rows(code)
+    for row, name in enumerate(NAMES):
+        for i in range(LENGTHS[row]):
+            at, there = table_spans[row][i], code_spans[row][i]
+            units, said = int(code[slice(*there)]), table[slice(*at)]
+            turned = said[2:] if said.startswith("- ") else "- " + said
+            for number, words in ((units + 1, nine_places(units + 1)), (units - 1, nine_places(units - 1)), (-units, turned)):
+                seen = {(source, other, name, i) for source, other in exact}
+                yield f"{name} {i} is {number}", put(table, [(at, words)]), put(code, [(there, str(number))]), seen
+
+
+def changed_digits(table, code):
+    """Each coefficient of the definition with a nought more after its digits, the number kept; and with another count of places."""
+    for row, name in enumerate(NAMES):
+        for i, at in enumerate(table_rows(table)[row]):
+            digits, places = table[slice(*at)].split(" /10^ ")
+            seen = {("Table.antt", "the digits printed", name, i)}
+            yield f"{name} {i} has a nought more", put(table, [(at, f"{digits}0 /10^ {int(places) + 1}")]), code, seen
+            yield f"{name} {i} has a place more", put(table, [(at, f"{digits} /10^ {int(places) + 1}")]), code, seen
+
+
+def changed_rows(table, code):
+    """Coefficients lost and put past a row's end, rows lost, rows swapped: each source has to be reported, by whatever sees it."""
+    table_spans, code_spans = table_rows(table), code_rows(code)
+
+    def line(row):  # of the definition: from the first coefficient to past the last
+        return table_spans[row][0][0], table_spans[row][-1][1]
+
+    def block(row):
+        return code_spans[row][0][0], code_spans[row][-1][1]
+
+    for row, name in enumerate(NAMES):
+        words = [table[slice(*span)] for span in table_spans[row]]
+        numbers = [code[slice(*span)] for span in code_spans[row]]
+        for i in range(LENGTHS[row]):
+            fewer, less = words[:i] + words[i + 1 :], numbers[:i] + numbers[i + 1 :] + ["0"]
+            lost = put(table, [(line(row), " ∷ ".join(fewer))]).replace(f"\n{name} =  ∷ []", f"\n{name} = []")
+            yield f"{name} {i} is lost", lost, put(code, [(block(row), ", ".join(less))]), set()
+        if LENGTHS[row] < WIDTH:
+            longer, more = " ∷ ".join(words + ["0_1 /10^ 1"]), ", ".join(numbers[: LENGTHS[row]] + ["100000000"] + numbers[LENGTHS[row] + 1 :])
+            yield f"{name} has one more", put(table, [(line(row), longer)]), put(code, [(block(row), more)]), set()
+        without = table.replace(f"unfoldable pub {name} : List ℤ\n{name} = {' ∷ '.join(words)} ∷ []\n", "").replace(f"{name} ∷ ", "")
+        start, end = block(row)
+        start, end = code.rindex("[", 0, start), code.index("],", end) + 2
+        yield f"{name} is lost", without, code[:start] + code[end:], set()
+    for a, b in itertools.combinations(range(len(NAMES)), 2):
+        turned = put(table, [(line(a), table[slice(*line(b))]), (line(b), table[slice(*line(a))])])
+        there = put(code, [(block(a), code[slice(*block(b))]), (block(b), code[slice(*block(a))])])
+        yield f"{NAMES[a]} and {NAMES[b]} swapped", turned, there, set()
+        order = " ∷ ".join(NAMES)
+        other = NAMES[:a] + [NAMES[b]] + NAMES[a + 1 : b] + [NAMES[a]] + NAMES[b + 1 :]
+        yield f"{NAMES[a]} and {NAMES[b]} swapped in the table of tables", table.replace(order, " ∷ ".join(other)), code, set()
+
+
+def main():
+    table, code = TABLE.read_text(encoding="utf-8"), CODE.read_text(encoding="utf-8")
+    wrong = differences(table, code)
+    for source, other, row, i in sorted(wrong)[:10]:
+        print(f"coefficients: {source}: {row} {i}: not as in {other}" if row else f"coefficients: {source}: {other}")
+    if wrong:
+        sys.exit(1)
+
+    count, missed = 0, []
+    for name, other_table, other_code, expected in itertools.chain(
+        changed_numbers(table, code), changed_digits(table, code), changed_rows(table, code)
+    ):
+        changed = {source for source, same in (("Table.antt", other_table == table), ("ROWS", other_code == code)) if not same}
+        assert changed, f"{name}: nothing was changed"
+        count += 1
+        seen = differences(other_table, other_code)
+        if not expected <= seen or {source for source, *_ in seen} != changed:
+            missed.append(name)
+    for name in missed[:10]:
+        print("coefficients: not seen:", name)
+    total = sum(LENGTHS)
+    print(f"coefficients: {total} of {total} as printed, in the definition and in the code; {count} changes, {count - len(missed)} seen")
+    sys.exit(1 if missed else 0)
+
+
+if __name__ == "__main__":
+    main()

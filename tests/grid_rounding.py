@@ -1,0 +1,317 @@
+#!/usr/bin/env python3
+"""Measures what putting a reading on the grid adds to the error of a shown density.
+
+    python3 tests/grid_rounding.py COMMAND ...      the command that starts the driver (tests/driver.c)
+
+Proved is how near a shown density is to the published formula at the grid numbers: 0.0006 kg/m3. A float as sent is up to half a step
+away from its grid number: 0.0005 of salinity, 0.0005 degrees C, 0.005 bar. What that changes in the formula is scanned here over the whole
+accepted range, and then sampled through the compiled panel, with floats as near to half a step as floats come. It is a measurement, no
+proof. The documents' words are the bounds below: the test fails where one is exceeded, and where a search comes to under 0.9 of one.
+"""
+import random
+import struct
+import subprocess
+import sys
+from bisect import bisect_left
+from fractions import Fraction
+from itertools import product
+from math import floor, isqrt, sqrt
+
+sys.dont_write_bytecode = True
+import coefficients  # as UNESCO's papers print them, held to document 01 and to the code
+
+# kg/m3: half a step in each and in all three, what is proved, and the sum of the last two.
+BOUNDS = {"salinity": 0.00043, "temperature": 0.00023, "pressure": 0.00027, "together": 0.0008}
+PROVED = 0.0006
+WHOLE = 0.0014
+# From this needle on no pair's waters, as sent, lie the other way: it is more than twice the whole.
+SURE_NEEDLE = 3
+
+RANGES = (0.0, 42.0), (-2.0, 40.0), (0.0, 1_000.0)
+STEPS = 1_000, 1_000, 100  # grid numbers to the unit
+HALF = tuple(0.5 / steps for steps in STEPS)
+POINTS = 85, 85, 101
+UNIFORM, NEAR = 100_000, 100_000  # readings sampled
+# A pair as sent, left and right: the needle says +2, the formula that the right is lighter.
+EXAMPLE = (40.891491, 39.962509, 958.48492), (40.891510, 39.963490, 958.48511)
+
+# ---- the published formula, in doubles and in fractions: practical salinity, degrees C, bar; lowest power of the temperature first. The
+# density at the surface goes by salinity to the powers 0, 1, 3/2 and 2, the modulus by these and by the pressure.
+EXACT = {name: [Fraction(c) for c in decimals] for name, (_, decimals) in coefficients.typed(coefficients.PAPERS, 2).items()}
+DOUBLE = {name: [float(c) for c in row] for name, row in EXACT.items()}
+
+
+def parcel(s, t, w, rows=DOUBLE):
+    """What salinity, temperature and the salinity's root w decide: density at the surface and the modulus's three parts."""
+
+    def at(name):
+        value = 0
+        for c in reversed(rows[name]):
+            value = value * t + c
+        return value
+
+    return (
+        at("Dw") + s * (at("Ds") + w * at("Dr") + s * at("Dss")),
+        at("Kw") + s * (at("Ks") + w * at("Kr")),
+        at("Aw") + s * (at("As") + w * at("Ar")),
+        at("Bw") + s * at("Bs"),
+    )
+
+
+def pressed(water, p):
+    d, k0, a, b = water
+    k = k0 + p * (a + p * b)
+    return d * k / (k - p)
+
+
+def density(s, t, p):
+    return pressed(parcel(s, t, sqrt(s)), p)
+
+
+def exactly(s, t, p):
+    """The density in fractions, with a root just below the true one and with one 10^-30 above that: the lower and the higher."""
+    s, t, p = Fraction(s), Fraction(t), Fraction(p)
+    w = isqrt(s.numerator * 10**60 // s.denominator)
+    ends = [pressed(parcel(s, t, Fraction(w + i, 10**30), EXACT), p) for i in (0, 1)]
+    return min(ends), max(ends)
+
+
+# ---- half a step, over the whole range
+
+CORNERS = list(product((0, 1), repeat=3))  # half a step up from a point in salinity, temperature, pressure, or not
+WAYS = {
+    "salinity": [((0, 0, 0), (1, 0, 0))],
+    "temperature": [((0, 0, 0), (0, 1, 0))],
+    "pressure": [((0, 0, 0), (0, 0, 1))],
+    "together": [(c, tuple(1 - x for x in c)) for c in CORNERS[:4]],  # grid number and float at opposite corners of a box
+}
+
+
+def corners(point):
+    """The densities at the corners of the box from a point up."""
+    return {c: density(*(x + h * i for x, h, i in zip(point, HALF, c))) for c in CORNERS}
+
+
+def change(way, point):
+    at = corners(point)
+    return max(abs(at[b] - at[a]) for a, b in WAYS[way])
+
+
+def evenly(place):
+    """Points over a range, both ends among them; half a step up from each is still in the range."""
+    (low, high), n = RANGES[place], POINTS[place]
+    return [low + (high - HALF[place] - low) * i / (n - 1) for i in range(n)]
+
+
+def scanned():
+    """way -> the greatest change and the point where the box starts"""
+    best = {way: (0.0, None) for way in WAYS}
+    hs, ht, hp = HALF
+    for s in evenly(0):
+        roots = sqrt(s), sqrt(s + hs)
+        for t in evenly(1):
+            # the four waters of a box, which pressures are then put to; the first letter is the salinity's side
+            (ld, l0, la, lb), (md, m0, ma, mb) = parcel(s, t, roots[0]), parcel(s, t + ht, roots[0])
+            (sd, s0, sa, sb), (wd, w0, wa, wb) = parcel(s + hs, t, roots[1]), parcel(s + hs, t + ht, roots[1])
+            for p in evenly(2):
+                q = p + hp
+                k = l0 + p * (la + p * lb)
+                low = ld * k / (k - p)
+                k = l0 + q * (la + q * lb)
+                low_deep = ld * k / (k - q)
+                k = m0 + p * (ma + p * mb)
+                warm = md * k / (k - p)
+                k = m0 + q * (ma + q * mb)
+                warm_deep = md * k / (k - q)
+                k = s0 + p * (sa + p * sb)
+                salt = sd * k / (k - p)
+                k = s0 + q * (sa + q * sb)
+                salt_deep = sd * k / (k - q)
+                k = w0 + p * (wa + p * wb)
+                both = wd * k / (k - p)
+                k = w0 + q * (wa + q * wb)
+                both_deep = wd * k / (k - q)
+                found = (
+                    abs(salt - low),
+                    abs(warm - low),
+                    abs(low_deep - low),
+                    max(abs(both_deep - low), abs(salt_deep - warm), abs(both - low_deep), abs(warm_deep - salt)),
+                )
+                for way, size in zip(WAYS, found):
+                    if size > best[way][0]:
+                        best[way] = size, (s, t, p)
+    return best
+
+
+def refined(way, size, point):
+    """From the best point of the scan to the best near it, by ever smaller moves within the range."""
+    moves = [(high - low) / (n - 1) for (low, high), n in zip(RANGES, POINTS)]
+    for _ in range(40):
+        for signs in product((-1, 0, 1), repeat=3):
+            other = tuple(min(max(x + m * i, low), high - h) for x, m, i, (low, high), h in zip(point, moves, signs, RANGES, HALF))
+            if change(way, other) > size + 1e-12:  # less is the doubles' own noise
+                size, point = change(way, other), other
+        moves = [m / 2 for m in moves]
+    return size, point
+
+
+def exact_change(way, point):
+    """The change at a point, in fractions: no less than this."""
+    point, half = [Fraction(x) for x in point], [Fraction(1, 2 * steps) for steps in STEPS]
+    at = {c: exactly(*(x + h * i for x, h, i in zip(point, half, c))) for c in CORNERS}
+    return max(max(at[b][0] - at[a][1], at[a][0] - at[b][1]) for a, b in WAYS[way])
+
+
+# ---- floats
+
+
+def to_float(x):
+    """The 32-bit float nearest to x."""
+    return struct.unpack("<f", struct.pack("<f", x))[0]
+
+
+def next_float(x, up):
+    """The next float above or below one that is above 0."""
+    bits = struct.unpack("<I", struct.pack("<f", x))[0]
+    return struct.unpack("<f", struct.pack("<I", bits + 1 if up else bits - 1))[0]
+
+
+def on_grid(x, steps):
+    """Exact: a float times 1,000 has 34 bits, and where a double cannot hold that and the half, it is too small to matter."""
+    return floor(x * steps + 0.5)
+
+
+def farthest(number, steps, up):
+    """The float farthest from a grid number above 0, up or down, that is still put on it."""
+    x = to_float((number + (0.5 if up else -0.5)) / steps)
+    while on_grid(x, steps) != number:
+        x = next_float(x, not up)
+    return x
+
+
+def anywhere(rng):
+    return tuple(to_float(rng.uniform(low, high)) for low, high in RANGES)
+
+
+def extreme(rng, middle):
+    """A reading near a point, all three floats near half a step off and the worst way: all heavier or all lighter than the grid numbers."""
+    tops = [round(high * steps) - 1 for (_, high), steps in zip(RANGES, STEPS)]
+    grid = [min(max(round(x * steps) + rng.randint(-250, 250), 1), top) for x, steps, top in zip(middle, STEPS, tops)]
+    heavier = rng.random() < 0.5
+    ways = heavier, heavier == (density(middle[0], middle[1] + 0.01, middle[2]) > density(*middle)), heavier
+    return tuple(farthest(g, steps, up) for g, steps, up in zip(grid, STEPS, ways))
+
+
+# ---- the compiled panel
+
+
+def asked(command, requests, answer):
+    said = subprocess.run(command, input=b"".join(requests), stdout=subprocess.PIPE, check=True).stdout
+    answers = list(struct.iter_unpack(answer, said))
+    assert len(answers) == len(requests)
+    return answers
+
+
+def channels(command, readings):
+    return asked(command, [struct.pack("<cI3f", b"c", 1, *r) for r in readings], "<6q")
+
+
+def needle(command, left, right):
+    return asked(command, [struct.pack("<cI3fI3f", b"n", 1, *left, 1, *right)], "<4q")[0]
+
+
+def place(point):
+    return "(%s)" % ", ".join("%.9g" % x for x in point)
+
+
+def main():
+    command = sys.argv[1:]
+    if not command:
+        sys.exit("give the command that starts the driver")
+    wrong, rng = [], random.Random(1980)
+    assert PROVED + BOUNDS["together"] <= WHOLE + 1e-12 and 2 * WHOLE < SURE_NEEDLE / 1_000
+
+    # Doubles do here: nowhere as much as 10^-9 from the exact formula.
+    off = max(
+        max(abs(Fraction(density(*r)) - end) for end in exactly(*r))
+        for r in [anywhere(rng) for _ in range(300)] + [tuple(c) for c in product(*RANGES)]
+    )
+    if off > Fraction(1, 10**9):
+        wrong.append("doubles are not enough")
+
+    # Half a step.
+    told, middle = [], None
+    for way, found in scanned().items():
+        size, point = refined(way, *found)
+        exact = exact_change(way, point)
+        if abs(exact - Fraction(size)) > Fraction(1, 10**9):
+            wrong.append(f"{way}: {size} in doubles, {float(exact)} in fractions")
+        if not 0.9 * BOUNDS[way] < exact <= BOUNDS[way]:
+            wrong.append(f"{way}: half a step changes the density by {float(exact):.7f}, the bound stated is {BOUNDS[way]}")
+        told.append(f"{way} {float(exact):.7f} at {place(point)}")
+        middle = point
+    print(f"grid rounding: the most that half a step changes the density (kg/m3; from salinity, degrees C, bar up): {'; '.join(told)}")
+
+    # Readings as sent.
+    readings = [anywhere(rng) for _ in range(UNIFORM)] + [extreme(rng, middle) for _ in range(NEAR)]
+    by_shown, far, far_at, from_grid, over = {}, 0.0, None, 0.0, 0
+    for i, (reading, (refusal, *grid, shown, _)) in enumerate(zip(readings, channels(command, readings))):
+        if refusal or grid != [on_grid(x, steps) for x, steps in zip(reading, STEPS)]:
+            wrong.append(f"{place(reading)} is refused or put elsewhere on the grid")
+            continue
+        off = density(*reading) - shown / 1_000
+        from_grid = max(from_grid, abs(density(*(g / steps for g, steps in zip(grid, STEPS))) - shown / 1_000))
+        over += i < UNIFORM and abs(off) > PROVED
+        if abs(off) > far:
+            far, far_at = abs(off), reading
+        by_shown.setdefault(shown, []).append((off, reading))
+    if from_grid > PROVED:
+        wrong.append(f"{from_grid:.7f} from the formula at the grid numbers")
+    if not 0.9 * WHOLE < far <= WHOLE:
+        wrong.append(f"{far:.7f} from the formula as sent; the bound stated is {WHOLE}")
+    print(
+        f"grid rounding: {UNIFORM} readings drawn evenly and {NEAR} near the greatest change: shown density at most {far:.7f} from the"
+        f" formula as sent, at {place(far_at)}, and {from_grid:.7f} from the formula at the grid numbers; as sent,"
+        f" {100 * over / UNIFORM:.1f} % of those drawn evenly are over {PROVED}"
+    )
+
+    # Every pair of these readings with a small needle: how many lie the other way as sent, and the one that does so most.
+    for row in by_shown.values():
+        row.sort()
+    others, worst = {}, {}
+    for n in range(1, 6):
+        count, least, pair = 0, 1.0, None
+        for shown, lefts in by_shown.items():
+            rights = by_shown.get(shown + n)
+            if not rights:
+                continue
+            offs = [off for off, _ in rights]
+            count += sum(bisect_left(offs, off - n / 1_000) for off, _ in lefts)
+            difference = n / 1_000 + rights[0][0] - lefts[-1][0]
+            if difference < least:
+                least, pair = difference, (lefts[-1][1], rights[0][1])
+        others[n], worst[n] = count, (least, pair)
+    sure = min(n for n in others if all(others[m] == 0 for m in others if m >= n))
+    if sure != SURE_NEEDLE:
+        wrong.append(f"the smallest needle with no pair the other way is {sure}")
+
+    # The example and the worst pair found, in fractions, by the brackets' far ends.
+    for name, n, pair in (("the example", 2, EXAMPLE), ("the worst found", SURE_NEEDLE - 1, worst[SURE_NEEDLE - 1][1])):
+        left, right = (tuple(to_float(x) for x in reading) for reading in pair)
+        refusal, *_, value = needle(command, left, right)
+        low, high = exactly(*right)[0] - exactly(*left)[1], exactly(*right)[1] - exactly(*left)[0]
+        if refusal or value != n or not low <= high < 0:
+            wrong.append(f"{name} is not so: refusal {refusal}, needle {value}, formula {float(low)} to {float(high)}")
+        print(f"grid rounding: {name}: left {place(left)}, right {place(right)}: needle {value:+}, the formula as sent {float(high):+.6f}")
+    print(
+        "grid rounding: pairs that lie the other way as sent, and the least difference: "
+        + "; ".join(f"needle +{n}: {others[n]}, {worst[n][0]:+.6f}" for n in others)
+        + f"; none from +{sure} on"
+    )
+    for line in wrong[:10]:
+        print("grid rounding:", line)
+    print(f"grid rounding: {len(wrong)} wrong")
+    sys.exit(1 if wrong else 0)
+
+
+main()

@@ -1,0 +1,131 @@
+/* The driver's panel with one fault, to see that tests/calls.py finds it. Linked with --wrap for main and for every function below; the
+ * driver's first argument is the fault's name, as it stands in has() here. Without one nothing is changed. */
+#include <string.h>
+#include <xmmintrin.h>
+#include "warpsorrel.h"
+
+__typeof__(warpsorrel_channel) __real_warpsorrel_channel, __wrap_warpsorrel_channel;
+__typeof__(warpsorrel_needle) __real_warpsorrel_needle, __wrap_warpsorrel_needle;
+__typeof__(warpsorrel_recorder) __real_warpsorrel_recorder, __wrap_warpsorrel_recorder;
+__typeof__(warpsorrel_line) __real_warpsorrel_line, __wrap_warpsorrel_line;
+__typeof__(warpsorrel_pairs) __real_warpsorrel_pairs, __wrap_warpsorrel_pairs;
+__typeof__(warpsorrel_pair) __real_warpsorrel_pair, __wrap_warpsorrel_pair;
+__typeof__(warpsorrel_page) __real_warpsorrel_page, __wrap_warpsorrel_page;
+
+static const char *fault = "";
+
+static int has(const char *name) {
+    return strcmp(fault, name) == 0;
+}
+
+int __real_main(void);
+int __wrap_main(int argc, char **argv) {
+    fault = argc > 1 ? argv[1] : "";
+    return __real_main();
+}
+
+/* ---- floats: a product with 1 is zero where denormals are flushed; a sum with next to nothing shows how the processor rounds */
+
+static volatile float one = 1, little = 1e-9f;
+
+static int flushing(void) {
+    return (_mm_getcsr() & 0x8040) == 0x8040;
+}
+
+static int rounding(unsigned mode) {
+    return (_mm_getcsr() >> 13 & 3) == mode;
+}
+
+uint32_t __wrap_warpsorrel_channel(uint32_t kind, float salinity, float temperature, float pressure, int64_t out[5]) {
+    if (has("channel: a denormal salinity flushed")) salinity *= one;
+    if (has("channel: a denormal pressure flushed")) pressure *= one;
+    if (has("channel: the rounding mode changed")) _mm_setcsr(_mm_getcsr() | 0x6000);
+    return __real_warpsorrel_channel(kind, salinity, temperature, pressure, out);
+}
+
+uint32_t __wrap_warpsorrel_needle(uint32_t lk, float ls, float lt, float lp, uint32_t rk, float rs, float rt, float rp, int64_t out[3]) {
+    if (has("needle: the right's temperature rounded in the mode there is") && (rt > 1 || rt < -1)) rt = rt + little;
+    return __real_warpsorrel_needle(lk, ls, lt, lp, rk, rs, rt, rp, out);
+}
+
+float __wrap_warpsorrel_recorder(uint32_t shown) {
+    if (has("recorder: ends one early") && shown == 16383999) return 0;
+    if (has("recorder: 0 where denormals are flushed") && flushing()) return 0;
+    return __real_warpsorrel_recorder(shown);
+}
+
+/* ---- lines */
+
+uint32_t __wrap_warpsorrel_line(uint32_t number, uint32_t lk, float ls, float lt, float lp, uint32_t rk, float rs, float rt, float rp,
+                                uint8_t *out, size_t room, size_t *count) {
+    size_t was = *count;
+    if (has("line: 31 before 30") && (number == 0 || number > 9999)) {
+        *count = 0;
+        return 31;
+    }
+    if (has("line: a denormal salinity flushed")) rs *= one;
+    if (has("line: a room of 31 taken") && room == 31) room = 32;
+    if (has("line: a room of 32 refused") && room == 32) room = 31;
+    if (has("line: 10,000 taken") && number == 10000) number = 9999;
+    if (has("line: 9,999 refused") && number == 9999) number = 10000;
+    if (has("line: the number in 16 bits")) number = (uint16_t)number;
+    if (has("line: the left's kind in 16 bits")) lk = (uint16_t)lk;
+    if (has("line: a cut record refused by 7") && rk == WARPSORREL_CUT) rk = WARPSORREL_UNKNOWN;
+    if (has("line: a wrong length refused by 6") && lk == WARPSORREL_LENGTH) lk = WARPSORREL_CUT;
+    if (has("line: a surface's pressure read") && rk == WARPSORREL_SURFACE && rp != rp) rk = WARPSORREL_DEEP;
+    uint32_t refusal = __real_warpsorrel_line(number, lk, ls, lt, lp, rk, rs, rt, rp, out, room, count);
+    if (has("line: refused, and a byte written") && refusal && room) out[0] = '0';
+    if (has("line: refused, and the count not written") && refusal) *count = was;
+    if (has("line: one byte fewer counted") && !refusal) *count -= 1;
+    if (has("line: the rest of the 32 bytes cleared") && !refusal) memset(out + *count, 0, 32 - *count);
+    if (has("line: a byte past the room") && room) out[room] = 0;
+    return refusal;
+}
+
+/* ---- streams */
+
+static volatile size_t eight = 8; /* unknown to the compiler, which would warn */
+
+size_t __wrap_warpsorrel_pairs(const uint8_t *stream, size_t length) {
+    size_t count = __real_warpsorrel_pairs(stream, length);
+    if (has("pairs: 0 over 60,000 bytes") && length > 60000) return 0;
+    if (has("pairs: 0 where it rounds down") && rounding(1)) return 0;
+    if (has("pairs: none past 9,999") && count > 9999) return 9999;
+    if (has("pairs: a left alone not counted") && length % 8 == 4) return count - 1;
+    return count;
+}
+
+uint32_t __wrap_warpsorrel_pair(const uint8_t *stream, size_t length, size_t before, int64_t out[8]) {
+    int64_t was[8];
+    memcpy(was, out, sizeof was);
+    if (has("pair: only the first 60,000 bytes") && length > 60000) length = 60000;
+    if (has("pair: none where denormals are flushed") && flushing()) length = 0;
+    if (has("pair: before in 32 bits")) before = (uint32_t)before;
+    if (has("pair: counted from 1") && before) before -= 1;
+    if (has("pair: the first again") && before < __real_warpsorrel_pairs(stream, length)) before = 0;
+    uint32_t there = __real_warpsorrel_pair(stream, length, before, out);
+    if (has("pair: the left's bulk modulus for the right")) out[5] = out[2];
+    if (has("pair: the left's density for the right")) out[4] = out[1];
+    if (has("pair: the needle of right and left")) out[7] = -out[7];
+    if (has("pair: none, and the words not written") && !there) memcpy(out, was, sizeof was);
+    if (has("pair: a ninth word")) out[eight] = 0;
+    if (has("pair: the stream changed") && length) ((uint8_t *)stream)[length / 2] ^= 1;
+    if (has("pair: a byte past the stream read") && length) out[0] += ((volatile const uint8_t *)stream)[length] & 0;
+    return there;
+}
+
+uint32_t __wrap_warpsorrel_page(const uint8_t *stream, size_t length, uint8_t *out, size_t room, size_t *count) {
+    size_t was = *count;
+    if (has("page: a room one short taken") && room == WARPSORREL_PAGE - 1) room += 1;
+    if (has("page: the least room refused") && room == WARPSORREL_PAGE) room -= 1;
+    if (has("page: none where it rounds to zero") && rounding(3)) length = 0;
+    if (has("page: 60,001 bytes have a page") && length == 60001) length -= 1;
+    uint32_t refusal = __real_warpsorrel_page(stream, length, out, room, count);
+    if (has("page: the byte past its end touched") && !refusal) out[*count] = 0;
+    if (has("page: the byte before its start touched") && room) out[-1] = 0;
+    if (has("page: refused, and the last byte written") && refusal && room) out[room - 1] = 0;
+    if (has("page: refused, and the count not written") && refusal) *count = was;
+    if (has("page: a word past the count") && !refusal) count[1] = 0;
+    if (has("page: NULL written to") && !out) *(volatile uint8_t *)out = 0;
+    return refusal;
+}

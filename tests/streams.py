@@ -1,0 +1,264 @@
+"""Streams that are hard on a reader: every cut, kind and length, bad floats in every place, knife edges, seeded random ones."""
+import random
+import struct
+
+from model import EXAMPLE, LONGEST_PAGE, QUANTITIES, bits_of, needle, page, pairs
+
+RANDOM_STREAMS = 1_300
+
+
+def made(kind, body, length=None):
+    return struct.pack("<HH", len(body) if length is None else length, kind) + body
+
+
+def deep(s, t, p):
+    return made(1, struct.pack("<III", s, t, p))
+
+
+def surface(s, t):
+    return made(2, struct.pack("<II", s, t))
+
+
+MISSING = made(3, b"")
+# A water for every place: salinity 35, temperature 5, pressure 250.
+PLAIN = [bits_of(x) for x in (35, 5, 250)]
+DEEP, SURFACE = deep(*PLAIN), surface(*PLAIN[:2])
+
+NANS = [0x7FC00000, 0xFFC00000, 0x7F800001, 0xFF800001, 0x7FFFFFFF, 0xFFFFFFFF, 0x7FBFFFFF]
+INFINITIES = [0x7F800000, 0xFF800000]
+ZEROS = [0x00000000, 0x80000000]
+TINY = [0x00000001, 0x80000001, 0x007FFFFF, 0x807FFFFF, 0x00800000, 0x80800000, 0x00800001, 0x00400000, 0x80400000]
+HUGE = [0x7F7FFFFF, 0xFF7FFFFF, 0x4F000000, 0xCF000000, 0x5F000000, 0xDF000000]
+
+
+def around(bits):
+    """A float and its two neighbours; zero has both signs."""
+    return [*ZEROS, 1, 0x80000001] if bits & 0x7FFFFFFF == 0 else [bits - 1, bits, bits + 1]
+
+
+def specials(place):
+    low, high, unit, _ = QUANTITIES[place]
+    ends = [b for x in (low, high, -high, low - 1, high + 1) for b in around(bits_of(x))]
+    steps = [b for x in (low, high) for d in (-1, -0.5, 0.5, 1) for b in around(bits_of(x + d / unit))]
+    return [*NANS, *INFINITIES, *ZEROS, *TINY, *HUGE, *ends, *steps, bits_of(1), bits_of(-1), bits_of(0.0625), bits_of(-0.0625)]
+
+
+def halves(place, rng):
+    """Floats whose grid number hangs on the half: exact halves, and the nearest to others with their neighbours."""
+    low, high, unit, _ = QUANTITIES[place]
+    parts = 16 if unit == 1_000 else 8  # (n + 1/2)/1,000 is a float only as an odd multiple of 1/16; (n + 1/2)/100: of 1/8
+    exact = rng.sample([n / parts for n in range(low * parts + 1, high * parts, 2)], 300)
+    near = [n / unit + 0.5 / unit for n in [low * unit, high * unit - 1] + rng.sample(range(low * unit, high * unit), 300)]
+    return [bits_of(x) for x in exact] + [b for x in near for b in around(bits_of(x))]
+
+
+def with_place(place, bits, kind=1):
+    floats = [*PLAIN[:place], bits, *PLAIN[place + 1 :]]
+    return deep(*floats) if kind == 1 else surface(*floats[:2])
+
+
+def both_sides(records):
+    """One stream with each record on one side, one with each on the other."""
+    stream = b"".join(records)
+    return [stream, MISSING + stream]
+
+
+def cut_to_fit(records):
+    """The same with as many streams as are needed, none over 60,000 bytes."""
+    some, size = [], len(MISSING)
+    for r in records:
+        if size + len(r) > 60_000:
+            yield from both_sides(some)
+            some, size = [], len(MISSING)
+        some.append(r)
+        size += len(r)
+    yield from both_sides(some)
+
+
+# One of everything: each kind, refused floats, unknown kinds and wrong lengths, and a body that looks like records.
+ALL_KINDS = b"".join(
+    [DEEP, SURFACE, MISSING, surface(PLAIN[0], NANS[0]), made(17, MISSING + SURFACE[:5]), made(2, DEEP[4:]), made(3, MISSING),
+     deep(PLAIN[0], PLAIN[1], 0x447A0001), made(1, b""), SURFACE, made(4, b"\1\2\3\4\5")]
+)
+KINDS = [0, 1, 2, 3, 4, 5, 16, 17, 255, 256, 257, 258, 512, 768, 65535]
+SHORT_LENGTHS = [0, 1, 4, 7, 8, 9, 11, 12, 13]
+LENGTHS = [*SHORT_LENGTHS, 255, 256, 264, 268, 2048, 3072]
+
+
+def filling(length):
+    """A body of valid floats."""
+    return (SURFACE[4:] * (length // 8 + 1))[:length]
+
+
+def heads():
+    """Every kind with every length, all in one stream; the short ones alone before a good record and cut by a byte; the
+    greatest length, and bodies that just fit or just do not."""
+    yield from cut_to_fit([made(k, filling(n)) for k in KINDS for n in LENGTHS])
+    short = [made(k, filling(n)) for k in (0, 1, 2, 3, 4, 17, 256, 513, 65535) for n in SHORT_LENGTHS]
+    yield from (r + SURFACE for r in short)
+    yield from (r[:-1] for r in short)
+    for k in (1, 2, 3, 4):
+        for length, held in ((65_535, 0), (65_535, 12), (65_535, 40_000), (59_997, 59_996), (59_996, 59_996), (59_992, 59_992)):
+            head = made(k, filling(held), length)
+            yield head
+            yield MISSING + head[:59_996]
+
+
+def trailing():
+    for count in range(5):
+        for rest in (b"\0\0\0", b"\x08\x00\x02", b"\x00\x00\x03", b"\xff\xff\xff"):
+            for n in (0, 1, 2, 3):
+                yield SURFACE * count + rest[:n]
+                yield (MISSING + made(5, b"ab")) * count + rest[:n]
+
+
+def refusal_order(rng):
+    """Good and bad in each place, each with each."""
+    bad = [
+        [PLAIN[i], 0x7FC00000, 0xFF800000, bits_of(low - 1), around(bits_of(high))[2]]
+        for i, (low, high, _, _) in enumerate(QUANTITIES)
+    ]
+    records = [deep(s, t, p) for s in bad[0] for t in bad[1] for p in bad[2]] + [surface(s, t) for s in bad[0] for t in bad[1]]
+    yield from both_sides(records)
+    rng.shuffle(records)
+    yield from both_sides(records)
+
+
+def float_streams(rng):
+    for place in range(3):
+        every = specials(place)
+        for kind in (1, 2):
+            if kind == 1 or place < 2:
+                yield from both_sides([with_place(place, b, kind) for b in every])
+        yield from cut_to_fit([with_place(place, b) for b in halves(place, rng)])
+    mixed = [deep(*(rng.choice(specials(i)) for i in range(3))) for _ in range(3_000)]
+    yield from cut_to_fit(mixed)
+    # each special alone, against a good reading
+    for place in range(3):
+        for b in specials(place)[:24]:
+            yield with_place(place, b) + SURFACE
+
+
+# Waters, in grid numbers and found by search, whose shown density hangs on the last unit: each would show such a slip.
+KNIFE_EDGES = {
+    "a scaled product rounded towards zero": [
+        (1939, 16136, 11891), (26750, 29562, 31717), (0, 28926, 54105), (15120, 17441, 567), (0, 39549, 98140),
+        (1063, -36, 67268), (1098, 39454, 99137), (25031, 8145, 61249),
+    ],
+    "K for N rounded up": [
+        (0, -1098, 99231), (0, 17249, 98591), (0, -1283, 65118), (11192, -1735, 91544), (32957, 8886, 91603), (41298, 36718, 65300),
+    ],
+    "a root one too large, just below a square": [
+        (1562, 3490, 87171), (3516, 8029, 57292), (6249, 11239, 0), (14061, 7777, 25533), (24999, -861, 0), (25002, 39916, 0),
+    ],
+    "a root one too small, at a square": [
+        (640, 8790, 0), (1000, -320, 23879), (2250, 9020, 0), (25000, 16443, 0), (28090, -604, 22475), (40960, 3932, 0),
+    ],
+    "the last digit of a coefficient": [
+        (33784, 38764, 0), (0, 39924, 22995), (0, 38407, 0), (3534, 39977, 66445), (23360, 35158, 90258), (0, 38910, 94050),
+        (25061, 38522, 98475), (0, 39407, 99169), (6754, 38493, 91150),
+    ],
+}
+
+
+def knife_edges():
+    waters = [deep(bits_of(s / 1_000), bits_of(t / 1_000), bits_of(p / 100)) for some in KNIFE_EDGES.values() for s, t, p in some]
+    return both_sides(waters)
+
+
+def sizes(rng):
+    mixture = (DEEP + SURFACE + MISSING + made(9, b"xyz")) * 5_000
+    for n in (1, 59_999, 60_000, 60_001, 60_002, 65_535, 65_536, 65_537, 200_000):
+        yield bytes(n)
+        yield mixture[:n]
+        yield rng.randbytes(n)
+        yield (MISSING * 50_000)[:n]
+        yield made(2, bytes(n))[:n] if n < 65_536 else SURFACE + bytes(n - 12)
+
+
+# Every pair needs 8 bytes at least, but a cut last one, and a longer record never pays for the line it costs.
+LONGEST = MISSING * 15_000
+WIDEST_LINES = (deep(bits_of(42), bits_of(-2), bits_of(1_000)) + deep(0, bits_of(40), 0)) * 1_875
+
+
+def any_float(place, rng):
+    low, high, unit, _ = QUANTITIES[place]
+    way = rng.random()
+    if way < 0.80:
+        return bits_of(rng.uniform(low, high))
+    if way < 0.86:
+        return bits_of((rng.randint(low * unit, high * unit) + rng.choice((0, 0.5))) / unit)
+    if way < 0.96:
+        return rng.choice(specials(place))
+    return rng.getrandbits(32)
+
+
+def any_record(rng):
+    way = rng.random()
+    if way < 0.42:
+        return deep(*(any_float(i, rng) for i in range(3)))
+    if way < 0.80:
+        return surface(*(any_float(i, rng) for i in range(2)))
+    if way < 0.90:
+        return MISSING
+    if way < 0.95:
+        return made(rng.choice(KINDS), filling(rng.choice((0, 8, 12))))
+    return made(rng.randint(1, 3), filling(rng.choice(SHORT_LENGTHS)))
+
+
+def mutated(stream, rng):
+    changed = bytearray(stream)
+    at = rng.randrange(len(changed))
+    way = rng.randrange(6)
+    if way == 0:
+        changed[at] ^= 1 << rng.randrange(8)
+    elif way == 1:
+        changed[at] = rng.choice((0, 1, 2, 3, 4, 8, 12, 0x7F, 0x80, 0xFF, rng.randrange(256)))
+    elif way == 2:
+        del changed[at]
+    elif way == 3:
+        changed.insert(at, rng.choice((0, 1, 2, 3, 8, 12, rng.randrange(256))))
+    elif way == 4:
+        del changed[at:]
+    else:
+        end = rng.randint(at, len(changed))
+        changed[at:at] = changed[at:end]
+    return bytes(changed)
+
+
+def any_stream(rng):
+    way = rng.random()
+    if way < 0.06:  # bytes that make plausible heads
+        return bytes(rng.choice((0, 0, 0, 1, 2, 3, 4, 8, 12)) for _ in range(rng.randrange(80)))
+    count = rng.randrange(200) if way > 0.95 else rng.randrange(24)
+    stream = b"".join(any_record(rng) for _ in range(count))
+    for _ in range(rng.choice((0, 0, 1, 1, 2, 3))):
+        if stream:
+            stream = mutated(stream, rng)
+    return stream
+
+
+def hard_streams():
+    rng = random.Random(38)
+    yield from (EXAMPLE[:n] for n in range(len(EXAMPLE) + 1))
+    for whole in (ALL_KINDS, MISSING + ALL_KINDS):
+        yield from (whole[:n] for n in range(len(whole) + 1))
+    for part in (heads(), trailing(), refusal_order(rng), float_streams(rng), knife_edges(), sizes(rng)):
+        yield from part
+    yield from (LONGEST, LONGEST[4:], LONGEST + b"\0", WIDEST_LINES, WIDEST_LINES[16:])
+    yield from (SURFACE * n for n in (1, 2, 3, 7, 99, 2_499, 5_000))
+    yield from (any_stream(rng) for _ in range(RANDOM_STREAMS))
+
+
+def covered(every):
+    """Every refusal number on either side and every sign of a needle is among what is tried."""
+    found = set()
+    for stream in every:
+        if len(stream) <= 60_000:
+            for left, right in pairs(stream):
+                refused, n = needle(left, right)
+                found |= {("left", left.refusal), ("right", right.refusal), ("needle", refused or (n > 0) - (n < 0))}
+    wanted = {(side, n) for side in ("left", "right") for n in range(9)}
+    wanted |= {("needle", n) for n in (-1, 0, 1, *range(101, 109), *range(201, 209))}
+    assert found == wanted, found ^ wanted
+    assert len(page(LONGEST)) == LONGEST_PAGE and page(LONGEST).endswith(b"\n7500 R1 R1 R101\n")
