@@ -14,11 +14,11 @@ use Rattle.readings.specs.declared.Checked.{Checked}
 use Rattle.readings.specs.Check.{givenOf, checkedOf}
 use Rattle.readings.proofs.Reasons.{OnGrid, Gridded, Reason}
 use Rattle.readings.proofs.Answers as reading
-use Rattle.sea.specs.declared.Water.{Water}
+use Rattle.waters.specs.declared.Water.{Water}
 use Rattle.sea.specs.Water.{waterOf}
 use Rattle.sea.proofs.Answers.{OnTable, known-on-table}
 use Rattle.readings.specs.declared.Entry.{Entry}
-use Rattle.panel.specs.declared.Channel.{Channel}
+use Rattle.channels.specs.declared.Channel.{Channel}
 use Rattle.panel.specs.Panel.{filled, wateredOf, checkedChannel, channelOf}
 
 -- a channel's three cases

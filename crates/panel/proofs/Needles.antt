@@ -7,8 +7,8 @@ use lib.IntN.{ℤ, pos, negℤ, natAbs, _-ℤ_}
 use Rattle.whole.proofs.Ints.{same, size-is, sub-is, neg-plus, neg-minus}
 use Rattle.readings.specs.declared.Point.{Point}
 use Rattle.readings.specs.declared.Entry.{Entry}
-use Rattle.panel.specs.declared.Channel.{Channel}
-use Rattle.panel.specs.declared.Needle.{Needle}
+use Rattle.channels.specs.declared.Channel.{Channel}
+use Rattle.channels.specs.declared.Needle.{Needle}
 use Rattle.panel.specs.Panel.{needleOf, comparisonOf}
 
 turned : (a b : ℕ) → pos a -ℤ pos b ≡ negℤ (pos b -ℤ pos a)

@@ -5,12 +5,6 @@ use contract.Lifetimes
 use Rattle.panel.proofs.answer.Reads as answer
 use Rattle.panel.proofs.compare.Reads as compare
 use Rattle.panel.proofs.paired.Reads as paired
-use Rattle.panel.proofs.Channel.number.Reads as channel-number
-use Rattle.panel.proofs.Channel.density.Reads as channel-density
-use Rattle.panel.proofs.Channel.bulk.Reads as channel-bulk
-use Rattle.panel.proofs.Channel.recorder.Reads as channel-recorder
-use Rattle.panel.proofs.Needle.number.Reads as needle-number
-use Rattle.panel.proofs.Needle.value.Reads as needle-value
 
 pub one-answer : (κs : Lifetimes.Lfts 0) (a : _) (r r′ : _) (s s′ : _) → answer.Learnt κs a r s → answer.Learnt κs a r′ s′ → r ≡ r′
 one-answer κs a r r′ s s′ e f = e ∙ sym f
@@ -20,21 +14,3 @@ one-compare κs a r r′ s s′ e f = e ∙ sym f
 
 pub one-paired : (κs : Lifetimes.Lfts 0) (a : _) (r r′ : _) (s s′ : _) → paired.Learnt κs a r s → paired.Learnt κs a r′ s′ → r ≡ r′
 one-paired κs a r r′ s s′ e f = e ∙ sym f
-
-pub one-channel-number : (κs : Lifetimes.Lfts 0) (a : _) (r r′ : _) (s s′ : _) → channel-number.Learnt κs a r s → channel-number.Learnt κs a r′ s′ → r ≡ r′
-one-channel-number κs a r r′ s s′ e f = e ∙ sym f
-
-pub one-channel-density : (κs : Lifetimes.Lfts 0) (a : _) (r r′ : _) (s s′ : _) → channel-density.Learnt κs a r s → channel-density.Learnt κs a r′ s′ → r ≡ r′
-one-channel-density κs a r r′ s s′ e f = e ∙ sym f
-
-pub one-channel-bulk : (κs : Lifetimes.Lfts 0) (a : _) (r r′ : _) (s s′ : _) → channel-bulk.Learnt κs a r s → channel-bulk.Learnt κs a r′ s′ → r ≡ r′
-one-channel-bulk κs a r r′ s s′ e f = e ∙ sym f
-
-pub one-channel-recorder : (κs : Lifetimes.Lfts 0) (a : _) (r r′ : _) (s s′ : _) → channel-recorder.Learnt κs a r s → channel-recorder.Learnt κs a r′ s′ → r ≡ r′
-one-channel-recorder κs a r r′ s s′ e f = e ∙ sym f
-
-pub one-needle-number : (κs : Lifetimes.Lfts 0) (a : _) (r r′ : _) (s s′ : _) → needle-number.Learnt κs a r s → needle-number.Learnt κs a r′ s′ → r ≡ r′
-one-needle-number κs a r r′ s s′ e f = e ∙ sym f
-
-pub one-needle-value : (κs : Lifetimes.Lfts 0) (a : _) (r r′ : _) (s s′ : _) → needle-value.Learnt κs a r s → needle-value.Learnt κs a r′ s′ → r ≡ r′
-one-needle-value κs a r r′ s s′ e f = e ∙ sym f

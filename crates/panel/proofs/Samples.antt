@@ -12,7 +12,7 @@ use Rattle.floats.specs.Grid.{inside, gridNo, placeOf}
 use Rattle.readings.specs.Check.{placedOf, checkedOf}
 use Rattle.readings.specs.declared.Report.{Report}
 use Rattle.readings.specs.declared.Entry.{Entry}
-use Rattle.panel.specs.declared.Channel.{Channel}
+use Rattle.channels.specs.declared.Channel.{Channel}
 use Rattle.panel.specs.Panel.{wateredOf, channelOf}
 
 -- salinity 0 and 35, both at the surface and at 5 °C

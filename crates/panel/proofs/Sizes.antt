@@ -16,7 +16,7 @@ use Rattle.readings.proofs.Reasons.{Reason, missing, not-finite, salinity, temp
 use Rattle.readings.proofs.Answers as reading
 use Rattle.sea.proofs.Answers.{OnTable, Shown, known-is-on-table, known-shows}
 use Rattle.readings.specs.declared.Entry.{Entry}
-use Rattle.panel.specs.declared.Channel.{Channel}
+use Rattle.channels.specs.declared.Channel.{Channel}
 use Rattle.panel.specs.Panel.{channelOf}
 use Rattle.panel.proofs.Answers.{Case, accepted, refused, no-record, case-of}
 

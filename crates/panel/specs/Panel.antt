@@ -5,12 +5,12 @@ use Rattle.refusals.specs.Number.{numberOf, refusalOf}
 use Rattle.readings.specs.declared.Point.{Point}
 use Rattle.readings.specs.declared.Checked.{Checked}
 use Rattle.readings.specs.Check.{checkedOf}
-use Rattle.sea.specs.declared.Water.{Water}
+use Rattle.waters.specs.declared.Water.{Water}
 use Rattle.sea.specs.Water.{waterOf}
 use Rattle.readings.specs.declared.Entry.{Entry}
-use Rattle.panel.specs.declared.Channel.{Channel}
-use Rattle.panel.specs.declared.Needle.{Needle}
-use Rattle.panel.specs.declared.Comparison.{Comparison}
+use Rattle.channels.specs.declared.Channel.{Channel}
+use Rattle.channels.specs.declared.Needle.{Needle}
+use Rattle.channels.specs.declared.Comparison.{Comparison}
 
 -- ---- a channel
 -- the water at a point of the grid
@@ -31,34 +31,12 @@ unfoldable pub channelOf : Entry → Channel
 channelOf (Entry.Reading report) = checkedChannel (checkedOf report)
 channelOf (Entry.Refused u) = Channel.Refused (refusalOf u)
 
--- the paper's number and values for each case: the refusal's number (0 for none), the shown density, the bulk modulus
-abbrev pub channelNumber : Channel → ℕ
-channelNumber (Channel.Accepted p d k) = 0
-channelNumber (Channel.Refused r) = numberOf r
-
-abbrev pub channelDensity : Channel → ℕ
-channelDensity (Channel.Accepted p d k) = d
-channelDensity (Channel.Refused r) = 0
-
-abbrev pub channelBulk : Channel → ℕ
-channelBulk (Channel.Accepted p d k) = k
-channelBulk (Channel.Refused r) = 0
-
 -- ---- the needle: shown density of the right, at its own pressure, minus that of the left, at its own; refused exactly if a
 -- channel is, by 100 plus the left's number if the left is refused, otherwise by 200 plus the right's
 abbrev pub needleOf : Channel → Channel → Needle
 needleOf (Channel.Refused r) c = Needle.Refused (100 + numberOf r)
 needleOf (Channel.Accepted p d k) (Channel.Refused r) = Needle.Refused (200 + numberOf r)
 needleOf (Channel.Accepted p d k) (Channel.Accepted p′ d′ k′) = Needle.Value (pos d′ -ℤ pos d)
-
--- the paper's number (0 for none) and value for each case
-abbrev pub needleNumber : Needle → ℕ
-needleNumber (Needle.Value z) = 0
-needleNumber (Needle.Refused n) = n
-
-abbrev pub needleValue : Needle → ℤ
-needleValue (Needle.Value z) = z
-needleValue (Needle.Refused n) = pos 0
 
 -- ---- a comparison: left and right, each from what stands in it, and their needle
 unfoldable pub comparisonOf : Entry → Entry → Comparison

@@ -15,9 +15,9 @@ use Rattle.readings.specs.declared.Given.{Given}
 use Rattle.readings.specs.declared.Point.{Point}
 use Rattle.readings.specs.declared.Entry.{Entry}
 use Rattle.readings.specs.Check.{givenOf}
-use Rattle.panel.specs.declared.Channel.{Channel}
-use Rattle.panel.specs.declared.Needle.{Needle}
-use Rattle.panel.specs.declared.Comparison.{Comparison}
+use Rattle.channels.specs.declared.Channel.{Channel}
+use Rattle.channels.specs.declared.Needle.{Needle}
+use Rattle.channels.specs.declared.Comparison.{Comparison}
 use Rattle.panel.specs.Panel.{channelOf, needleOf, comparisonOf}
 use Rattle.panel.proofs.answer.Reads as answer
 use Rattle.panel.proofs.compare.Reads as compare

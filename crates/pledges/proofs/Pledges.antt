@@ -18,8 +18,8 @@ use Rattle.readings.specs.declared.Reading.{Reading}
 use Rattle.readings.specs.declared.Point.{Point}
 use Rattle.readings.proofs.Reasons.{Gridded}
 use Rattle.readings.specs.declared.Entry.{Entry}
-use Rattle.panel.specs.declared.Channel.{Channel}
-use Rattle.panel.specs.declared.Needle.{Needle}
+use Rattle.channels.specs.declared.Channel.{Channel}
+use Rattle.channels.specs.declared.Needle.{Needle}
 use Rattle.panel.specs.Panel.{channelOf}
 use Rattle.panel.proofs.Answers.{accepted-gridded}
 use Rattle.panel.proofs.Sizes.{accepted-shows, accepted-table}

@@ -7,7 +7,7 @@ use Rattle.floats.specs.Bytes.{floatOf}
 use Rattle.readings.specs.declared.Point.{Point}
 use Rattle.readings.specs.declared.Report.{Report}
 use Rattle.readings.specs.Check.{surfaceOf}
-use Rattle.panel.specs.declared.Needle.{Needle}
+use Rattle.channels.specs.declared.Needle.{Needle}
 use Rattle.panel.specs.Panel.{channelOf, needleOf}
 use Rattle.panel.proofs.Samples.{fresh, salt, fresh-is, salt-is}
 use Rattle.promises.proofs.Grid.{rooted}

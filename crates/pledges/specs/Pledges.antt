@@ -13,8 +13,8 @@ use Rattle.readings.specs.declared.Given.{Given}
 use Rattle.readings.specs.declared.Point.{Point}
 use Rattle.readings.specs.Check.{givenOf}
 use Rattle.readings.specs.declared.Entry.{Entry}
-use Rattle.panel.specs.declared.Channel.{Channel}
-use Rattle.panel.specs.declared.Needle.{Needle}
+use Rattle.channels.specs.declared.Channel.{Channel}
+use Rattle.channels.specs.declared.Needle.{Needle}
 use Rattle.panel.specs.Panel.{channelOf, needleOf}
 use Rattle.promises.specs.Formula.{densityF}
 use Rattle.promises.specs.Promises.{Rooted, Within, Close}

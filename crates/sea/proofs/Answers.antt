@@ -10,8 +10,8 @@ use lib.Signed.{leZ}
 use Rattle.whole.specs.Arith.{neg, plus}
 use Rattle.refusals.specs.declared.Refusal.{Refusal}
 use Rattle.refusals.specs.declared.Refusal.the-variants.{Salinity, Temperature, Pressure}
-use Rattle.sea.specs.declared.Water.{Water}
-use Rattle.sea.specs.declared.Water.the-variants.{Known, Refused}
+use Rattle.waters.specs.declared.Water.{Water}
+use Rattle.waters.specs.declared.Water.the-variants.{Known, Refused}
 use Rattle.sea.specs.declared.InRange.{InRange}
 use Rattle.sea.specs.declared.InRange.the-variants.{Inside, Outside}
 use Rattle.sea.specs.Recipe.{bulkOf, shownOf, shownAt, modulusAt, parcelOf, parcelAt}

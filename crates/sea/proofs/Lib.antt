@@ -2,5 +2,4 @@ pub mod Points
 pub mod Sizes
 pub mod Grid
 pub mod Answers
-pub mod Cases
 pub mod One

@@ -3,18 +3,6 @@
 use mathlib.Core.Path.{_≡_, sym, _∙_}
 use contract.Lifetimes
 use Rattle.sea.proofs.water_at.Reads as water-at
-use Rattle.sea.proofs.Water.number.Reads as number
-use Rattle.sea.proofs.Water.density.Reads as density
-use Rattle.sea.proofs.Water.bulk.Reads as bulk
 
 pub one-water-at : (κs : Lifetimes.Lfts 0) (a : _) (r r′ : _) (s s′ : _) → water-at.Learnt κs a r s → water-at.Learnt κs a r′ s′ → r ≡ r′
 one-water-at κs a r r′ s s′ e f = e ∙ sym f
-
-pub one-number : (κs : Lifetimes.Lfts 0) (a : _) (r r′ : _) (s s′ : _) → number.Learnt κs a r s → number.Learnt κs a r′ s′ → r ≡ r′
-one-number κs a r r′ s s′ e f = e ∙ sym f
-
-pub one-density : (κs : Lifetimes.Lfts 0) (a : _) (r r′ : _) (s s′ : _) → density.Learnt κs a r s → density.Learnt κs a r′ s′ → r ≡ r′
-one-density κs a r r′ s s′ e f = e ∙ sym f
-
-pub one-bulk : (κs : Lifetimes.Lfts 0) (a : _) (r r′ : _) (s s′ : _) → bulk.Learnt κs a r s → bulk.Learnt κs a r′ s′ → r ≡ r′
-one-bulk κs a r r′ s s′ e f = e ∙ sym f

@@ -1,14 +1,12 @@
 -- The answer of a call on grid numbers: document 01 refuses those outside the grid table by 3, 4 and 5, in this order, with noughts.
-use Prim.Native.Nat.{ℕ}
 use mathlib.Core.Bool.{cond}
 use lib.IntN.{ℤ, pos}
 use lib.Signed.{leZ}
 use Rattle.whole.specs.Arith.{neg, plus}
 use Rattle.refusals.specs.declared.Refusal.{Refusal}
 use Rattle.refusals.specs.declared.Refusal.the-variants.{Salinity, Temperature, Pressure}
-use Rattle.refusals.specs.Number.{numberOf}
-use Rattle.sea.specs.declared.Water.{Water}
-use Rattle.sea.specs.declared.Water.the-variants.{Known, Refused}
+use Rattle.waters.specs.declared.Water.{Water}
+use Rattle.waters.specs.declared.Water.the-variants.{Known, Refused}
 use Rattle.sea.specs.declared.InRange.{InRange}
 use Rattle.sea.specs.declared.InRange.the-variants.{Inside, Outside}
 use Rattle.sea.specs.Recipe.{shownAt, modulusAt}
@@ -29,16 +27,3 @@ waterOf σ τ π =
     (unless (rangeOf (neg 2_000) (pos 40_000) τ) Temperature
     (unless (rangeOf (pos 0) (pos 100_000) π) Pressure
     (Known (shownAt (plus σ) τ (plus π)) (modulusAt (plus σ) τ (plus π)))))
-
--- the paper's number and values for each case: the refusal's number (0 for none), the shown density, the bulk modulus
-abbrev pub waterNumber : Water → ℕ
-waterNumber (Known d k) = 0
-waterNumber (Refused r) = numberOf r
-
-abbrev pub waterDensity : Water → ℕ
-waterDensity (Known d k) = d
-waterDensity (Refused r) = 0
-
-abbrev pub waterBulk : Water → ℕ
-waterBulk (Known d k) = k
-waterBulk (Refused r) = 0

@@ -2,50 +2,12 @@
 ghost use mathlib.Core.Path.{_≡_};
 ghost use lib.IntN.{pos, _+ℤ_};
 ghost use Rattle.whole.specs.Arith.{neg, plus, scaled};
-ghost use Rattle.sea.specs.declared.Water.the-variants.{Known};
+ghost use Rattle.waters.specs.declared.Water.the-variants.{Known};
 ghost use Rattle.sea.specs.Recipe as the;
 ghost use Rattle.sea.specs.Sizes.{Lies, Sizes, Salty, Stiff, Ranges};
-ghost use Rattle.sea.specs.Water.{rangeOf, waterOf, waterNumber, waterDensity, waterBulk};
+ghost use Rattle.sea.specs.Water.{rangeOf, waterOf};
 use refusals::Refusal;
-
-// The answer for grid numbers: the shown density in 0.001 kg/m3 and the bulk modulus in 0.01 bar, or why not.
-pub enum Water {
-    Known { density: u32, bulk: u32 },
-    Refused(Refusal),
-}
-
-// The paper's number and values for each case: a refused water has noughts.
-impl Water {
-    pub fn number(self) -> u32
-        ensures { λ r. ⌜ r ≡ waterNumber self ⌝ }
-    {
-        match self {
-            Water::Known {
-                density: _,
-                bulk: _,
-            } => 0,
-            Water::Refused(why) => why.number(),
-        }
-    }
-
-    pub fn density(self) -> u32
-        ensures { λ r. ⌜ r ≡ waterDensity self ⌝ }
-    {
-        match self {
-            Water::Known { density, bulk: _ } => density,
-            Water::Refused(_) => 0,
-        }
-    }
-
-    pub fn bulk(self) -> u32
-        ensures { λ r. ⌜ r ≡ waterBulk self ⌝ }
-    {
-        match self {
-            Water::Known { density: _, bulk } => bulk,
-            Water::Refused(_) => 0,
-        }
-    }
-}
+use waters::Water;
 
 // The answer of a range check.
 pub enum InRange {

@@ -1,3 +1,2 @@
 mod Words
-pub mod Cases
 pub mod One

@@ -3,9 +3,9 @@
 use mathlib.Core.Path.{_≡_, sym, ap, _∙_}
 use Prim.Native.Nat.{ℕ}
 use contract.Lifetimes
-use Rattle.lines.specs.Line.{lineOf, written}
+use Rattle.texts.specs.Text.{lineOf, written}
 use Rattle.pages.specs.Page.{pageOf}
-use Rattle.warpsorrel.specs.Abi.{entryOf}
+use Rattle.abi.specs.Abi.{entryOf}
 use Rattle.warpsorrel.proofs.warpsorrel_refusal.Reads as refusal
 use Rattle.warpsorrel.proofs.warpsorrel_density.Reads as density
 use Rattle.warpsorrel.proofs.warpsorrel_bulk.Reads as bulk

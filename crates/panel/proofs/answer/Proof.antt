@@ -1,7 +1,7 @@
 -- `panel::answer` meets its contract: each arm is the definition's case. Assumes nothing.
 use mathlib.Core.Path.{sym, ap, _∙_}
 use borrow.Author.Needs.{needs}
-use Rattle.panel.specs.declared.Channel.{Channel}
+use Rattle.channels.specs.declared.Channel.{Channel}
 use Rattle.panel.specs.Panel.{checkedChannel, channelOf}
 use Rattle.panel.proofs.answer.Statement.{statement}
 use Rattle.panel.proofs.answer.Tie as tie

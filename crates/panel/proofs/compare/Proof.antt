@@ -10,8 +10,8 @@ use mir.ValLaws.{toZ-pos}
 use Rattle.whole.proofs.Ints.{size-is, add-is, neg-plus, neg-minus}
 use Rattle.whole.proofs.Words.{word-as, fits-as, fits-size}
 use Rattle.refusals.proofs.Numbers.{number-range}
-use Rattle.panel.specs.declared.Channel.{Channel}
-use Rattle.panel.specs.declared.Needle.{Needle}
+use Rattle.channels.specs.declared.Channel.{Channel}
+use Rattle.channels.specs.declared.Needle.{Needle}
 use Rattle.panel.specs.Panel.{needleOf}
 use Rattle.panel.proofs.compare.Statement.{statement}
 use Rattle.panel.proofs.compare.Tie as tie

@@ -8,7 +8,7 @@ use mir.ValLaws.{toZ-ofZ}
 use Rattle.whole.specs.Arith.{plus}
 use Rattle.whole.proofs.Words.{word, given, fits-size}
 use Rattle.whole.proofs.Ints.{size-is}
-use Rattle.sea.specs.declared.Water.the-variants.{Known}
+use Rattle.waters.specs.declared.Water.the-variants.{Known}
 use Rattle.sea.specs.Recipe.{bulk, hundredths, mass}
 use Rattle.sea.proofs.Grid.{lies-word}
 use Rattle.sea.proofs.pressed.Statement.{statement}

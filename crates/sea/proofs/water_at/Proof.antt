@@ -7,7 +7,7 @@ use mir.Syntax.{w64}
 use mir.ValLaws.{toZ-ofZ}
 use Rattle.whole.specs.Arith.{neg, plus}
 use Rattle.refusals.specs.declared.Refusal.the-variants.{Salinity, Temperature, Pressure}
-use Rattle.sea.specs.declared.Water.the-variants.{Known}
+use Rattle.waters.specs.declared.Water.the-variants.{Known}
 use Rattle.sea.specs.declared.InRange.{InRange}
 use Rattle.sea.specs.declared.InRange.the-variants.{Inside}
 use Rattle.sea.specs.Recipe.{bulk, shown, hundredths, bulkOf, shownOf, shownAt, modulusAt, parcelOf, parcelAt}

@@ -1,7 +1,7 @@
 -- `warpsorrel_bulk` meets its contract: it hands on what `sea::water_at` answers. Assumes nothing.
 use mathlib.Core.Path.{ap, _∙_}
 use borrow.Author.Needs.{needs}
-use Rattle.sea.specs.Water.{waterBulk}
+use Rattle.waters.specs.Numbers.{waterBulk}
 use Rattle.warpsorrel.proofs.Words.{water-is}
 use Rattle.warpsorrel.proofs.warpsorrel_bulk.Statement.{statement}
 use Rattle.warpsorrel.proofs.warpsorrel_bulk.Tie as tie

@@ -1,7 +1,7 @@
 -- `warpsorrel_density` meets its contract: it hands on what `sea::water_at` answers. Assumes nothing.
 use mathlib.Core.Path.{ap, _∙_}
 use borrow.Author.Needs.{needs}
-use Rattle.sea.specs.Water.{waterDensity}
+use Rattle.waters.specs.Numbers.{waterDensity}
 use Rattle.warpsorrel.proofs.Words.{water-is}
 use Rattle.warpsorrel.proofs.warpsorrel_density.Statement.{statement}
 use Rattle.warpsorrel.proofs.warpsorrel_density.Tie as tie

@@ -3,7 +3,7 @@ use mathlib.Core.Path.{sym, ap, _∙_}
 use borrow.Author.Needs.{needs}
 use lib.Seq.{sets}
 use Rattle.streams.specs.declared.Found.{Found}
-use Rattle.warpsorrel.specs.Abi.{foundNumber, foundWords}
+use Rattle.abi.specs.Abi.{foundNumber, foundWords}
 use Rattle.warpsorrel.proofs.warpsorrel_pair.Statement.{statement}
 use Rattle.warpsorrel.proofs.warpsorrel_pair.Tie as tie
 

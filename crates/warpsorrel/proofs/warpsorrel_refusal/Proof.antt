@@ -1,7 +1,7 @@
 -- `warpsorrel_refusal` meets its contract: it hands on what `sea::water_at` answers. Assumes nothing.
 use mathlib.Core.Path.{ap, _∙_}
 use borrow.Author.Needs.{needs}
-use Rattle.sea.specs.Water.{waterNumber}
+use Rattle.waters.specs.Numbers.{waterNumber}
 use Rattle.warpsorrel.proofs.Words.{water-is}
 use Rattle.warpsorrel.proofs.warpsorrel_refusal.Statement.{statement}
 use Rattle.warpsorrel.proofs.warpsorrel_refusal.Tie as tie

@@ -1,0 +1,65 @@
+-- What the C ABI's numbers stand for, in numbers: what a definition and its code would have to get wrong together is held to literals here.
+-- Assumes nothing.
+use mathlib.Core.Path.{_≡_, refl}
+use mathlib.Core.List.{[], _∷_}
+use Prim.Native.Nat.{ℕ}
+use lib.IntN.{pos}
+use lib.Ieee.{Float}
+use Rattle.whole.specs.Arith.{neg}
+use Rattle.refusals.specs.declared.Refusal.{Refusal}
+use Rattle.refusals.specs.declared.Unread.{Unread}
+use Rattle.readings.specs.declared.Report.{Report}
+use Rattle.readings.specs.declared.Entry.{Entry}
+use Rattle.channels.specs.declared.Channel.{Channel}
+use Rattle.channels.specs.declared.Needle.{Needle}
+use Rattle.channels.specs.declared.Comparison.{Comparison}
+use Rattle.streams.specs.declared.Found.{Found}
+use Rattle.abi.specs.Abi.{entryOf, channelWords, comparisonWords, foundNumber, foundWords}
+
+-- the kinds of the header
+pub kinds :
+    (s t p : Float) →
+    (entryOf 1 s t p ≡ Entry.Reading (Report.Deep s t p)) × ((entryOf 2 s t p ≡ Entry.Reading (Report.Surface s t)) × (entryOf 3 s t p ≡ Entry.Reading Report.Missing))
+unfolding entryOf
+kinds s t p = (refl, (refl, refl))
+
+pub unread-kinds :
+    (s t p : Float) →
+    (entryOf 65542 s t p ≡ Entry.Refused Unread.Cut) × ((entryOf 65543 s t p ≡ Entry.Refused Unread.Kind) × ((entryOf 65544 s t p ≡ Entry.Refused Unread.Length)
+    × ((entryOf 0 s t p ≡ Entry.Refused Unread.Kind) × (entryOf 4 s t p ≡ Entry.Refused Unread.Kind))))
+unfolding entryOf
+unread-kinds s t p = (refl, (refl, (refl, (refl, refl))))
+
+-- salinity 35 at 10 bar and -1 °C, in made-up numbers that are all different
+abbrev deep : Channel
+deep = Channel.Accepted (record { sigma = pos 35_000; tau = neg 1_000; pi = pos 1_001 }) 1_028_642 2_219_593
+
+abbrev no : Channel
+no = Channel.Refused Refusal.Temperature
+
+pub channel-words :
+    (channelWords deep ≡ pos 35_000 ∷ neg 1_000 ∷ pos 1_001 ∷ pos 1_028_642 ∷ pos 2_219_593 ∷ [])
+    × (channelWords no ≡ pos 0 ∷ pos 0 ∷ pos 0 ∷ pos 0 ∷ pos 0 ∷ [])
+channel-words = (refl, refl)
+
+abbrev beside : Channel
+beside = Channel.Accepted (record { sigma = pos 34_000; tau = pos 5_000; pi = pos 0 }) 1_026_883 2_213_222
+
+abbrev both : Comparison
+both = record { left = deep; right = beside; needle = Needle.Value (neg 1_759) }
+
+abbrev one : Comparison
+one = record { left = no; right = beside; needle = Needle.Refused 104 }
+
+pub comparison-words :
+    (comparisonWords both ≡ pos 1_028_642 ∷ pos 1_026_883 ∷ neg 1_759 ∷ []) × (comparisonWords one ≡ pos 0 ∷ pos 1_026_883 ∷ pos 0 ∷ [])
+comparison-words = (refl, refl)
+
+pub found-words :
+    (foundWords (Found.There both) ≡ pos 0 ∷ pos 1_028_642 ∷ pos 2_219_593 ∷ pos 0 ∷ pos 1_026_883 ∷ pos 2_213_222 ∷ pos 0 ∷ neg 1_759 ∷ [])
+    × ((foundWords (Found.There one) ≡ pos 4 ∷ pos 0 ∷ pos 0 ∷ pos 0 ∷ pos 1_026_883 ∷ pos 2_213_222 ∷ pos 104 ∷ pos 0 ∷ [])
+    × (foundWords Found.Nothing ≡ pos 0 ∷ pos 0 ∷ pos 0 ∷ pos 0 ∷ pos 0 ∷ pos 0 ∷ pos 0 ∷ pos 0 ∷ []))
+found-words = (refl, (refl, refl))
+
+pub found-numbers : (foundNumber (Found.There both) ≡ 1) × (foundNumber Found.Nothing ≡ 0)
+found-numbers = (refl, refl)

@@ -1,0 +1,3 @@
+mod Words
+pub mod Cases
+pub mod One

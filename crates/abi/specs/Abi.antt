@@ -1,0 +1,50 @@
+-- What the C ABI's numbers stand for.
+use Prim.Native.Nat.{ℕ}
+use mathlib.Core.Bool.{cond}
+use mathlib.Core.List.{List, [], _∷_}
+use lib.Dec.{eqb}
+use lib.IntN.{ℤ, pos}
+use lib.Ieee.{Float}
+use Rattle.refusals.specs.declared.Unread.{Unread}
+use Rattle.readings.specs.declared.Report.{Report}
+use Rattle.readings.specs.declared.Entry.{Entry}
+use Rattle.channels.specs.declared.Channel.{Channel}
+use Rattle.channels.specs.declared.Comparison.{Comparison}
+use Rattle.channels.specs.Numbers.{channelNumber, channelDensity, channelBulk, needleNumber, needleValue}
+use Rattle.streams.specs.declared.Found.{Found}
+
+-- a kind, as a record's, and its floats: 1 deep, 2 surface, 3 missing. 65,536 plus 6 or 8, which no record has for a kind, stands for a record that
+-- was refused by 6 or 8; any other kind, 65,536 plus 7 among them, is refused by 7 as a record's is
+unfoldable pub entryOf : ℕ → Float → Float → Float → Entry
+entryOf kind s t p =
+    cond (eqb kind 1) (Entry.Reading (Report.Deep s t p))
+    (cond (eqb kind 2) (Entry.Reading (Report.Surface s t))
+    (cond (eqb kind 3) (Entry.Reading Report.Missing)
+    (cond (eqb kind 65542) (Entry.Refused Unread.Cut)
+    (cond (eqb kind 65544) (Entry.Refused Unread.Length)
+    (Entry.Refused Unread.Kind)))))
+
+-- a channel's grid numbers, density and bulk modulus; noughts if refused
+abbrev pub channelWords : Channel → List ℤ
+channelWords (Channel.Accepted p d k) = p .sigma ∷ p .tau ∷ p .pi ∷ pos d ∷ pos k ∷ []
+channelWords (Channel.Refused r) = pos 0 ∷ pos 0 ∷ pos 0 ∷ pos 0 ∷ pos 0 ∷ []
+
+-- the two densities, 0 where refused, and the needle, 0 if refused
+abbrev pub comparisonWords : Comparison → List ℤ
+comparisonWords x = pos (channelDensity (x .left)) ∷ pos (channelDensity (x .right)) ∷ needleValue (x .needle) ∷ []
+
+-- refusal, density and bulk modulus of the left and of the right, refusal and value of the needle
+abbrev pub pairWords : Comparison → List ℤ
+pairWords x =
+    pos (channelNumber (x .left)) ∷ pos (channelDensity (x .left)) ∷ pos (channelBulk (x .left))
+    ∷ pos (channelNumber (x .right)) ∷ pos (channelDensity (x .right)) ∷ pos (channelBulk (x .right))
+    ∷ pos (needleNumber (x .needle)) ∷ needleValue (x .needle) ∷ []
+
+-- the k-th pair of a stream: 1 and its words, or 0 and noughts where there is none
+abbrev pub foundNumber : Found → ℕ
+foundNumber (Found.There x) = 1
+foundNumber Found.Nothing = 0
+
+abbrev pub foundWords : Found → List ℤ
+foundWords (Found.There x) = pairWords x
+foundWords Found.Nothing = pos 0 ∷ pos 0 ∷ pos 0 ∷ pos 0 ∷ pos 0 ∷ pos 0 ∷ pos 0 ∷ pos 0 ∷ []

@@ -1,0 +1,94 @@
+// What a channel and a needle answer.
+ghost use mathlib.Core.Path.{_≡_};
+ghost use Rattle.floats.specs.Recorder.{recorderOf};
+ghost use Rattle.channels.specs.Numbers.{channelNumber, channelDensity, channelBulk, needleNumber, needleValue};
+use readings::Point;
+use refusals::Refusal;
+
+// A channel's answer: the grid numbers, the shown density in 0.001 kg/m3 and the bulk modulus in 0.01 bar; or why not.
+pub enum Channel {
+    Accepted { at: Point, density: u32, bulk: u32 },
+    Refused(Refusal),
+}
+
+// The needle: right minus left in 0.001 kg/m3; or 100 plus the left's refusal, or 200 plus the right's.
+pub enum Needle {
+    Value(i64),
+    Refused(u32),
+}
+
+// Two channels and their needle.
+pub struct Comparison {
+    pub left: Channel,
+    pub right: Channel,
+    pub needle: Needle,
+}
+
+// The paper's number and values for each case: a refused channel has noughts.
+impl Channel {
+    pub fn number(self) -> u32
+        ensures { λ r. ⌜ r ≡ channelNumber self ⌝ }
+    {
+        match self {
+            Channel::Accepted {
+                at: _,
+                density: _,
+                bulk: _,
+            } => 0,
+            Channel::Refused(why) => why.number(),
+        }
+    }
+
+    pub fn density(self) -> u32
+        ensures { λ r. ⌜ r ≡ channelDensity self ⌝ }
+    {
+        match self {
+            Channel::Accepted {
+                at: _,
+                density,
+                bulk: _,
+            } => density,
+            Channel::Refused(_) => 0,
+        }
+    }
+
+    pub fn bulk(self) -> u32
+        ensures { λ r. ⌜ r ≡ channelBulk self ⌝ }
+    {
+        match self {
+            Channel::Accepted {
+                at: _,
+                density: _,
+                bulk,
+            } => bulk,
+            Channel::Refused(_) => 0,
+        }
+    }
+
+    // The float for the recorder.
+    pub fn recorder(self) -> f32
+        ensures { λ r. ⌜ r ≡ recorderOf (channelDensity self) ⌝ }
+    {
+        floats::recorder(self.density())
+    }
+}
+
+impl Needle {
+    pub fn number(self) -> u32
+        ensures { λ r. ⌜ r ≡ needleNumber self ⌝ }
+    {
+        match self {
+            Needle::Value(_) => 0,
+            Needle::Refused(number) => number,
+        }
+    }
+
+    pub fn value(self) -> i64
+        ensures { λ r. ⌜ r ≡ needleValue self ⌝ }
+    {
+        match self {
+            Needle::Value(difference) => difference,
+            Needle::Refused(_) => 0,
+        }
+    }
+}

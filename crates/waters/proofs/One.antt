@@ -1,0 +1,16 @@
+-- One answer: two answers that a contract allows are equal. `Learnt` is the contract itself, as the checker reads it off the source, so that a
+-- dropped clause breaks these laws. Assumes nothing.
+use mathlib.Core.Path.{_≡_, sym, _∙_}
+use contract.Lifetimes
+use Rattle.waters.proofs.Water.number.Reads as number
+use Rattle.waters.proofs.Water.density.Reads as density
+use Rattle.waters.proofs.Water.bulk.Reads as bulk
+
+pub one-number : (κs : Lifetimes.Lfts 0) (a : _) (r r′ : _) (s s′ : _) → number.Learnt κs a r s → number.Learnt κs a r′ s′ → r ≡ r′
+one-number κs a r r′ s s′ e f = e ∙ sym f
+
+pub one-density : (κs : Lifetimes.Lfts 0) (a : _) (r r′ : _) (s s′ : _) → density.Learnt κs a r s → density.Learnt κs a r′ s′ → r ≡ r′
+one-density κs a r r′ s s′ e f = e ∙ sym f
+
+pub one-bulk : (κs : Lifetimes.Lfts 0) (a : _) (r r′ : _) (s s′ : _) → bulk.Learnt κs a r s → bulk.Learnt κs a r′ s′ → r ≡ r′
+one-bulk κs a r r′ s s′ e f = e ∙ sym f
