@@ -7,7 +7,7 @@ ghost use Rattle.sea.specs.Water.{waterOf};
 ghost use Rattle.waters.specs.Numbers.{waterNumber, waterDensity, waterBulk};
 ghost use Rattle.channels.specs.Numbers.{channelNumber, needleNumber};
 ghost use Rattle.panel.specs.Panel.{channelOf, comparisonOf};
-ghost use Rattle.records.specs.Records.{pairs};
+ghost use Rattle.pairs.specs.Pairs.{pairs};
 ghost use Rattle.streams.specs.Nth.{nthOf};
 ghost use Rattle.texts.specs.Text.{lineOf, written};
 ghost use Rattle.lines.specs.Line.{wroteOf, wroteNumber, wroteCount};
@@ -104,7 +104,7 @@ pub extern "C" fn warpsorrel_recorder(shown: u32) -> f32
 pub extern "C" fn warpsorrel_pairs(stream: &[u8]) -> usize
     ensures { λ r. ⌜ r ≡ length (pairs (now (stream .entry))) ⌝ }
 {
-    records::count(stream)
+    pairs::count(stream)
 }
 
 // The pair of a stream with so many pairs before it: 1, and out gets refusal, density and bulk modulus of the left, those of the right,
