@@ -4,7 +4,7 @@
     python3 tests/calls.py COMMAND ...      the command that starts the driver (tests/driver.c)
 
 Pairs, pair and page on the hard streams of tests/streams.py and on longer ones; lines of every kind of entry, number and room,
-each with each; special floats in every rounding mode, with denormals kept and flushed. That nothing else is written is the
+each with each; every kind of report; special floats in every rounding mode, with denormals kept and flushed. That nothing else is written is the
 driver's to see: it ends then, which counts as a difference.
 """
 import random
@@ -166,6 +166,12 @@ def line_calls(entries):
             yield from (line_call(number, left, right, room) for number in NUMBERS for room in ROOMS)
 
 
+def kind_calls(rng):
+    """Every kind that a record can have, those round about the kinds of records that gave no reading, and some others."""
+    for kind in [*range(65_800), *(rng.randrange(2**32) for _ in range(5_000)), *(2**k + d for k in range(17, 32) for d in (-1, 0, 1, 2, 3))]:
+        yield channel_call((kind, *PLAIN))
+
+
 # ---- floating-point modes
 
 ROUNDINGS, DENORMALS = ("to nearest", "down", "up", "to zero"), ("kept", "flushed")
@@ -269,6 +275,7 @@ def every_batch():
     covered(every)
     yield from batches(stream_calls([*every, *long_streams(rng)]))
     yield from batches(line_calls(ENTRIES))
+    yield list(kind_calls(rng))
     yield from mode_calls(list(mode_reports(rng)))
 
 
@@ -288,7 +295,7 @@ def main():
         print(text)
     print(
         f"calls: {len(streams)} streams, {counts['pair']} pairs, {counts['line']} lines, {counts['page']} pages,"
-        f" {counts['channel'] // len(MODES)} readings in {len(MODES)} float modes, {len(told)} different"
+        f" {counts['channel']} readings, some in {len(MODES)} float modes, {len(told)} different"
     )
     sys.exit(1 if told else 0)
 

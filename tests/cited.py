@@ -4,7 +4,8 @@
     python3 tests/cited.py
 
 Every file and every name that the page cites exists; every must-fail edit is cited, and says in its first line what it does; every public
-function has its law in its crate's proofs/One, over its contract, and stands on the page.
+function has its law in its crate's proofs/One, over its contract, and stands on the page; each but the inner ones has the law that it asks
+nothing of its caller.
 """
 import re
 import sys
@@ -15,6 +16,8 @@ CRATES = ROOT / "crates"
 PAGE = (ROOT / "docs/PROMISES.md").read_text(encoding="utf-8")
 LIBRARIES = sorted(p.parent.parent.name for p in CRATES.glob("*/src/lib.rt"))
 TEXTS = {p: p.read_text(encoding="utf-8") for kind in ("antt", "rt") for p in CRATES.rglob("*." + kind)}
+
+INNER = {("whole", "*"), ("floats", "grid.place"), ("texts", "put_line")}  # they ask for sizes or room, and their callers see to it
 
 wrong = []
 
@@ -80,6 +83,8 @@ def functions():
                     alias = re.search(r"use Rattle\.%s\.proofs\.%s\.Reads as (\S+)" % (crate, re.escape(path)), laws)
                     hold(alias, f"no law over the contract of {crate}::{path}")
                     hold(not alias or laws.count(f"{alias[1]}.Learnt κs a r s → {alias[1]}.Learnt κs a r′ s′") == 1, f"no law: {crate}::{path}")
+                    if alias and not {(crate, "*"), (crate, path)} & INNER:
+                        hold(f"{alias[1]}.Asked κs a\nfree-{alias[1]} κs a = tt\n" in laws, f"no law that nothing is asked: {crate}::{path}")
                     name = found[1].removeprefix("warpsorrel_")
                     hold(re.search(r"`(?:[\w:]+::|warpsorrel_)?%s`" % name, PAGE), f"a public function that the page does not name: {crate}::{path}")
     return count

@@ -104,6 +104,13 @@ def heads():
             yield MISSING + head[:59_996]
 
 
+def every_kind():
+    """All 65,536 kinds, with no body, and with the body that a surface reading has."""
+    for body, count in ((b"", 15_000), (SURFACE[4:], 5_000)):
+        records = [made(k, body) for k in range(65_536)]
+        yield from (b"".join(records[i : i + count]) for i in range(0, len(records), count))
+
+
 def trailing():
     for count in range(5):
         for rest in (b"\0\0\0", b"\x08\x00\x02", b"\x00\x00\x03", b"\xff\xff\xff"):
@@ -243,7 +250,7 @@ def hard_streams():
     yield from (EXAMPLE[:n] for n in range(len(EXAMPLE) + 1))
     for whole in (ALL_KINDS, MISSING + ALL_KINDS):
         yield from (whole[:n] for n in range(len(whole) + 1))
-    for part in (heads(), trailing(), refusal_order(rng), float_streams(rng), knife_edges(), sizes(rng)):
+    for part in (heads(), every_kind(), trailing(), refusal_order(rng), float_streams(rng), knife_edges(), sizes(rng)):
         yield from part
     yield from (LONGEST, LONGEST[4:], LONGEST + b"\0", WIDEST_LINES, WIDEST_LINES[16:])
     yield from (SURFACE * n for n in (1, 2, 3, 7, 99, 2_499, 5_000))

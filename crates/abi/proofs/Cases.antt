@@ -3,6 +3,7 @@
 use mathlib.Core.Path.{_≡_, refl}
 use mathlib.Core.List.{[], _∷_}
 use Prim.Native.Nat.{ℕ}
+use borrow.Author.Tests.{ne-eqb}
 use lib.IntN.{pos}
 use lib.Ieee.{Float}
 use Rattle.whole.specs.Arith.{neg}
@@ -29,6 +30,12 @@ pub unread-kinds :
     × ((entryOf 0 s t p ≡ Entry.Refused Unread.Kind) × (entryOf 4 s t p ≡ Entry.Refused Unread.Kind))))
 unfolding entryOf
 unread-kinds s t p = (refl, (refl, (refl, (refl, refl))))
+
+-- and every kind but these is refused by 7
+pub other-kinds :
+    (kind : ℕ) (s t p : Float) → ¬ (kind ≡ 1) → ¬ (kind ≡ 2) → ¬ (kind ≡ 3) → ¬ (kind ≡ 65542) → ¬ (kind ≡ 65544) → entryOf kind s t p ≡ Entry.Refused Unread.Kind
+unfolding entryOf
+other-kinds kind s t p a b c d e = simp (ne-eqb _ _ a, ne-eqb _ _ b, ne-eqb _ _ c, ne-eqb _ _ d, ne-eqb _ _ e)
 
 -- salinity 35 at 10 bar and -1 °C, in made-up numbers that are all different
 abbrev deep : Channel

@@ -22,3 +22,19 @@ one-put-pair κs a r r′ s s′ e f = e ∙ sym f
 
 pub one-put-noughts : (κs : Lifetimes.Lfts 1) (a : _) (r r′ : _) (s s′ : _) → put-noughts.Learnt κs a r s → put-noughts.Learnt κs a r′ s′ → s .0 .now ≡ s′ .0 .now
 one-put-noughts κs a r r′ s s′ e f = e ∙ sym f
+
+-- ---- nothing is asked of the caller: `Asked` is what a contract requires
+pub free-entry-of : (κs : Lifetimes.Lfts 0) (a : _) → entry-of.Asked κs a
+free-entry-of κs a = tt
+
+pub free-put-channel : (κs : Lifetimes.Lfts 1) (a : _) → put-channel.Asked κs a
+free-put-channel κs a = tt
+
+pub free-put-comparison : (κs : Lifetimes.Lfts 1) (a : _) → put-comparison.Asked κs a
+free-put-comparison κs a = tt
+
+pub free-put-pair : (κs : Lifetimes.Lfts 1) (a : _) → put-pair.Asked κs a
+free-put-pair κs a = tt
+
+pub free-put-noughts : (κs : Lifetimes.Lfts 1) (a : _) → put-noughts.Asked κs a
+free-put-noughts κs a = tt

@@ -1,6 +1,5 @@
 // What a channel and a needle answer.
 ghost use mathlib.Core.Path.{_≡_};
-ghost use Rattle.floats.specs.Recorder.{recorderOf};
 ghost use Rattle.channels.specs.Numbers.{channelNumber, channelDensity, channelBulk, needleNumber, needleValue};
 use readings::Point;
 use refusals::Refusal;
@@ -63,13 +62,6 @@ impl Channel {
             } => bulk,
             Channel::Refused(_) => 0,
         }
-    }
-
-    // The float for the recorder.
-    pub fn recorder(self) -> f32
-        ensures { λ r. ⌜ r ≡ recorderOf (channelDensity self) ⌝ }
-    {
-        floats::recorder(self.density())
     }
 }
 

@@ -18,3 +18,13 @@ one-recorder κs a r r′ s s′ e f = e ∙ sym f
 
 pub one-float-of : (κs : Lifetimes.Lfts 0) (a : _) (r r′ : _) (s s′ : _) → float-of.Learnt κs a r s → float-of.Learnt κs a r′ s′ → r ≡ r′
 one-float-of κs a r r′ s s′ e f = e ∙ sym f
+
+-- ---- nothing is asked of the caller: `Asked` is what a contract requires
+pub free-is-finite : (κs : Lifetimes.Lfts 0) (a : _) → is-finite.Asked κs a
+free-is-finite κs a = tt
+
+pub free-recorder : (κs : Lifetimes.Lfts 0) (a : _) → recorder.Asked κs a
+free-recorder κs a = tt
+
+pub free-float-of : (κs : Lifetimes.Lfts 0) (a : _) → float-of.Asked κs a
+free-float-of κs a = tt

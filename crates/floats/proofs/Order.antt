@@ -45,6 +45,13 @@ module _ (k : ℕ) (x : Float) where
   high : plus a * (2 * k) + b + 2 * b * minus (gridNo k x) < 2 * b * plus (gridNo k x) + minus a * (2 * k) + 2 * b
   high = omega (arith, steps .high, w-is)
 
+-- ---- what the words say: by multiplying across, and no more
+pub at-most : (x y : Float) → (numer x *ℤ pos (denom y)) ≤ℤ (numer y *ℤ pos (denom x)) → AtMost x y
+at-most x y h = h
+
+pub same-value : (x y : Float) → AtMost x y → AtMost y x → Same x y
+same-value x y h g = (h, g)
+
 -- ---- two floats
 pub grid-order : (k : ℕ) (x y : Float) → AtMost x y → gridNo k x ≤ℤ gridNo k y
 grid-order k x y h =

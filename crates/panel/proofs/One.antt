@@ -14,3 +14,13 @@ one-compare κs a r r′ s s′ e f = e ∙ sym f
 
 pub one-paired : (κs : Lifetimes.Lfts 0) (a : _) (r r′ : _) (s s′ : _) → paired.Learnt κs a r s → paired.Learnt κs a r′ s′ → r ≡ r′
 one-paired κs a r r′ s s′ e f = e ∙ sym f
+
+-- ---- nothing is asked of the caller: `Asked` is what a contract requires
+pub free-answer : (κs : Lifetimes.Lfts 0) (a : _) → answer.Asked κs a
+free-answer κs a = tt
+
+pub free-compare : (κs : Lifetimes.Lfts 0) (a : _) → compare.Asked κs a
+free-compare κs a = tt
+
+pub free-paired : (κs : Lifetimes.Lfts 0) (a : _) → paired.Asked κs a
+free-paired κs a = tt

@@ -1,17 +1,27 @@
--- Nothing here is empty: what the pledges are about holds of real readings, the two waters of document 01's example. Assumes nothing.
+-- Nothing here is empty: what the pledges are about holds of real readings, the two waters of document 01's example and one of them at 1,000
+-- bar. Assumes nothing.
+use Prim.Native.Nat.{_≤_}
 use mathlib.Core.Path.{_≡_, refl, sym}
 use lib.IntN.{pos}
+use lib.Ieee.{Float, ofBits}
+use Rattle.whole.specs.Arith.{scaled, rowValue, rootFrom, rootOf}
 use Rattle.whole.specs.Fraction.{over}
-use Rattle.sea.specs.Recipe.{rootAt}
+use Rattle.sea.specs.Table.{Dw, Ds, Dr, Dss, Kw, Ks, Kr, Aw, As, Ar, Bw, Bs}
+use Rattle.sea.specs.Recipe.{rowsAt, rootAt, surface, K0, A, B, bulk, hundredths, mass, net, gain, density, shown, bulkOf, shownOf, shownAt, modulusAt}
+use Rattle.sea.specs.Water.{rangeOf, waterOf}
+use Rattle.floats.specs.Grid.{inside, gridNo, placeOf, Same}
 use Rattle.floats.specs.Bytes.{floatOf}
 use Rattle.readings.specs.declared.Point.{Point}
 use Rattle.readings.specs.declared.Report.{Report}
-use Rattle.readings.specs.Check.{surfaceOf}
+use Rattle.readings.specs.declared.Entry.{Entry}
+use Rattle.readings.specs.Check.{deepOf, surfaceOf, placedOf, checkedOf}
+use Rattle.channels.specs.declared.Channel.{Channel}
 use Rattle.channels.specs.declared.Needle.{Needle}
-use Rattle.panel.specs.Panel.{channelOf, needleOf}
+use Rattle.panel.specs.Panel.{wateredOf, channelOf, needleOf}
 use Rattle.panel.proofs.Samples.{fresh, salt, fresh-is, salt-is}
 use Rattle.promises.proofs.Grid.{rooted}
 use Rattle.pledges.specs.Pledges.{Shows, Sides}
+use Rattle.pledges.proofs.Pledges.{saltier, deeper}
 
 -- salinity 0 and 35, both at the surface and at 5 °C
 abbrev fresh-at : Point
@@ -48,3 +58,53 @@ sides-of-both =
   where
     needle-is : Needle.Value (pos 27_708) ≡ needleOf (channelOf fresh) (channelOf salt)
     needle-is = rw (fresh-is, salt-is)
+
+-- ---- saltier and deeper: the floats' order is met, and minus zero has the value of zero
+abbrev f0 : Float
+f0 = floatOf 0x00 0x00 0x00 0x00
+
+abbrev f5 : Float
+f5 = floatOf 0x00 0x00 0xA0 0x40
+
+abbrev f35 : Float
+f35 = floatOf 0x00 0x00 0x0C 0x42
+
+abbrev f1000 : Float
+f1000 = floatOf 0x00 0x00 0x7A 0x44
+
+pub shows-fresh : Shows (surfaceOf f0 f5) 999_967
+shows-fresh = record { report = Report.Surface f0 f5; reading-is = refl; point = fresh-at; bulk = 2_033_780; channel-is = sym fresh-is }
+
+pub deep-is : channelOf (Entry.Reading (Report.Deep f35 f5 f1000)) ≡ Channel.Accepted (record { sigma = pos 35_000; tau = pos 5_000; pi = pos 100_000 }) 1_069_489 2_557_749
+unfolding ofBits channelOf checkedOf placedOf placeOf inside gridNo wateredOf waterOf rangeOf scaled rowValue rootFrom rootOf Dw Ds Dr Dss Kw Ks Kr Aw As Ar Bw Bs rowsAt rootAt surface K0 A B bulk hundredths mass net gain density shown bulkOf shownOf shownAt modulusAt
+deep-is = refl
+
+pub shows-deep : Shows (deepOf f35 f5 f1000) 1_069_489
+shows-deep =
+    record {
+      report = Report.Deep f35 f5 f1000;
+      reading-is = refl;
+      point = record { sigma = pos 35_000; tau = pos 5_000; pi = pos 100_000 };
+      bulk = 2_557_749;
+      channel-is = sym deep-is;
+    }
+
+pub same-5 : Same f5 f5
+unfolding ofBits
+same-5 = (record { le = tt }, record { le = tt })
+
+pub same-35 : Same f35 f35
+unfolding ofBits
+same-35 = (record { le = tt }, record { le = tt })
+
+pub same-noughts : Same f0 (floatOf 0x00 0x00 0x00 0x80)
+unfolding ofBits
+same-noughts = (record { le = tt }, record { le = tt })
+
+pub saltier-real : 999_967 ≤ 1_027_675
+unfolding ofBits
+saltier-real = saltier (surfaceOf f0 f5) (surfaceOf f35 f5) 999_967 1_027_675 shows-fresh shows-salt same-5 (record { le = tt }, record { le = tt }) (record { le = tt })
+
+pub deeper-real : 1_027_675 ≤ 1_069_489
+unfolding ofBits
+deeper-real = deeper (surfaceOf f35 f5) (deepOf f35 f5 f1000) 1_027_675 1_069_489 shows-salt shows-deep same-35 same-5 (record { le = tt })

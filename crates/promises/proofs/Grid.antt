@@ -3,11 +3,10 @@
 use Prim.Native.Nat.{ℕ, _+_, _*_, _≤_, _<_}
 use native.Mathlib.Omega.{arith}
 use lib.IntN.{ℤ, pos}
-use Rattle.whole.specs.Arith.{Root}
 use Rattle.whole.specs.Fraction.{Frac, over, _≤F_, _⊗_}
 use Rattle.whole.proofs.Interval.{Between}
 use Rattle.whole.proofs.Near.{Near, to-≤F, of-≤F}
-use Rattle.whole.proofs.Roots.{root-is}
+use Rattle.whole.proofs.Roots.{Root, root-is}
 use Rattle.sea.specs.Recipe.{rowsAt, rootAt, surface, bulkOf, shownAt}
 use Rattle.sea.specs.Sizes.{Sizes, Ranges}
 use Rattle.sea.proofs.Sizes.{between, sizes, root-small, ranges}

@@ -5,8 +5,8 @@ use mathlib.Core.Path.{_≡_, sym, subst}
 use native.Mathlib.Omega.{arith}
 use native.Mathlib.Nat.{mul-le-mul-right, mul-le-mul-left}
 use lib.IntN.{ℤ, pos, _+ℤ_}
-use Rattle.whole.specs.Arith.{neg, plus, minus, scaled, Root}
-use Rattle.whole.proofs.Roots.{root-below}
+use Rattle.whole.specs.Arith.{neg, plus, minus, scaled}
+use Rattle.whole.proofs.Roots.{Root, root-below}
 use Rattle.whole.proofs.Interval.{by, reach-down, reach-up, _⊞_}
 use Rattle.sea.specs.declared.Rows.{Rows}
 use Rattle.sea.specs.Recipe.{surface, K0, A, B, bulk, bulkOf, shownOf}

@@ -18,3 +18,16 @@ one-finite κs a r r′ s s′ e f = e ∙ sym f
 
 pub one-check : (κs : Lifetimes.Lfts 0) (a : _) (r r′ : _) (s s′ : _) → check.Learnt κs a r s → check.Learnt κs a r′ s′ → r ≡ r′
 one-check κs a r r′ s s′ e f = e ∙ sym f
+
+-- ---- nothing is asked of the caller: `Asked` is what a contract requires
+pub free-reading : (κs : Lifetimes.Lfts 0) (a : _) → reading.Asked κs a
+free-reading κs a = tt
+
+pub free-surface : (κs : Lifetimes.Lfts 0) (a : _) → surface.Asked κs a
+free-surface κs a = tt
+
+pub free-finite : (κs : Lifetimes.Lfts 0) (a : _) → finite.Asked κs a
+free-finite κs a = tt
+
+pub free-check : (κs : Lifetimes.Lfts 0) (a : _) → check.Asked κs a
+free-check κs a = tt

@@ -3,11 +3,12 @@ use mathlib.Core.Path.{_≡_, refl}
 use mathlib.Core.List.{List, [], _∷_, map}
 use Prim.Native.Nat.{ℕ}
 use lib.IntN.{ℤ, pos}
-use lib.Ieee.{binary32, ofBits}
+use mathlib.Core.Bool.{false}
+use lib.Ieee.{Float, fin, binary32, ofBits}
 use Rattle.whole.specs.Arith.{neg}
 use Rattle.refusals.specs.declared.Refusal.{Refusal}
 use Rattle.floats.specs.Grid.{inside, gridNo, placeOf}
-use Rattle.readings.specs.Check.{placedOf, checkedOf}
+use Rattle.readings.specs.Check.{surfaceOf, placedOf, checkedOf}
 use Rattle.readings.specs.declared.Report.{Report}
 use Rattle.readings.specs.declared.Checked.{Checked}
 
@@ -58,3 +59,7 @@ samples =
 pub samples-hold : map (λ (s : Sample). checkedOf (s .report)) samples ≡ map (λ (s : Sample). s .answer) samples
 unfolding samples checkedOf placedOf placeOf inside gridNo ofBits
 samples-hold = refl
+
+-- at the surface the pressure is 0 itself, whatever the other floats are
+pub surface-at-nought : (s t : Float) → (surfaceOf s t) .pressure ≡ fin false 0 (pos 0)
+surface-at-nought s t = refl

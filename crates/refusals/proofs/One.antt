@@ -10,3 +10,10 @@ one-number κs a r r′ s s′ e f = e ∙ sym f
 
 pub one-refusal : (κs : Lifetimes.Lfts 0) (a : _) (r r′ : _) (s s′ : _) → refusal.Learnt κs a r s → refusal.Learnt κs a r′ s′ → r ≡ r′
 one-refusal κs a r r′ s s′ e f = e ∙ sym f
+
+-- ---- nothing is asked of the caller: `Asked` is what a contract requires
+pub free-number : (κs : Lifetimes.Lfts 0) (a : _) → number.Asked κs a
+free-number κs a = tt
+
+pub free-refusal : (κs : Lifetimes.Lfts 0) (a : _) → refusal.Asked κs a
+free-refusal κs a = tt

@@ -6,3 +6,7 @@ use Rattle.sea.proofs.water_at.Reads as water-at
 
 pub one-water-at : (κs : Lifetimes.Lfts 0) (a : _) (r r′ : _) (s s′ : _) → water-at.Learnt κs a r s → water-at.Learnt κs a r′ s′ → r ≡ r′
 one-water-at κs a r r′ s s′ e f = e ∙ sym f
+
+-- ---- nothing is asked of the caller: `Asked` is what a contract requires
+pub free-water-at : (κs : Lifetimes.Lfts 0) (a : _) → water-at.Asked κs a
+free-water-at κs a = tt

@@ -1,13 +1,15 @@
 -- The proved set of document 01, "Check points": eight densities, the bulk modulus at (0, 5, 0) and three roots, as one list
--- of things to work out with what each must be, and one theorem over it, which is computed. Assumes nothing.
+-- of things to work out with what each must be, and one theorem over it, which is computed. Then D, K0, A, B and K in 10⁻⁹ at two odd readings,
+-- where every product that is rounded at all leaves a rest: a product rounded otherwise would hardly show in a density. Assumes nothing.
 use Prim.Native.Nat.{ℕ}
+use mathlib.Core.Path.{_≡_, refl}
 use mathlib.Core.Bool.{Bool, true, cond, false}
 use mathlib.Core.List.{List, [], _∷_}
 use lib.Dec.{T, eqb}
 use lib.IntN.{pos}
-use Rattle.whole.specs.Arith.{scaled, rowValue, rootFrom, rootOf}
+use Rattle.whole.specs.Arith.{neg, scaled, rowValue, rootFrom, rootOf}
 use Rattle.sea.specs.Table.{Dw, Ds, Dr, Dss, Kw, Ks, Kr, Aw, As, Ar, Bw, Bs}
-use Rattle.sea.specs.Recipe.{rowsAt, rootAt, surface, K0, A, B, bulk, hundredths, mass, net, gain, density, shown, bulkOf, shownOf, shownAt, modulusAt}
+use Rattle.sea.specs.Recipe.{rowsAt, rootAt, surface, K0, A, B, bulk, hundredths, mass, net, gain, density, shown, bulkOf, shownOf, shownAt, modulusAt, parcelOf, parcelAt}
 
 pub data Point : Type 0 where
   -- the shown density at σ, τ, π
@@ -45,3 +47,14 @@ all (p ∷ ps) = cond (holds p) (all ps) false
 pub check-points : T (all points)
 unfolding points holds all scaled rowValue rootFrom rootOf Dw Ds Dr Dss Kw Ks Kr Aw As Ar Bw Bs rowsAt rootAt surface K0 A B bulk hundredths mass net gain density shown bulkOf shownOf shownAt modulusAt
 check-points = tt
+
+pub parcels :
+    (parcelAt 37_097 (neg 331) ≡ record { d = pos 1_029_819_588_404; k0 = pos 21_655_249_034_041; a = pos 3_367_468_246_140; b = pos 50_018_970_693 })
+    × (parcelAt 37_688 (pos 37_041) ≡ record { d = pos 1_021_150_228_228; k0 = pos 24_211_482_458_077; a = pos 3_454_865_619_843; b = neg 30_247_556_568 })
+unfolding parcelAt parcelOf scaled rowValue rootFrom rootOf Dw Ds Dr Dss Kw Ks Kr Aw As Ar Bw Bs rowsAt rootAt surface K0 A B
+parcels = (refl, refl)
+
+pub moduli :
+    (bulkOf (rowsAt (neg 331)) 37_097 60_907 11_142 ≡ pos 22_031_073_302_355) × (bulkOf (rowsAt (pos 37_041)) 37_688 61_390 99_541 ≡ pos 27_620_519_723_467)
+unfolding scaled rowValue Dw Ds Dr Dss Kw Ks Kr Aw As Ar Bw Bs rowsAt K0 A B bulk bulkOf
+moduli = (refl, refl)

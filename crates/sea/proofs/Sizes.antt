@@ -11,10 +11,10 @@ use lib.IntN.{ℤ, pos, natAbs, _+ℤ_}
 use lib.ListN.{getD, drop}
 use lib.Seq.{drop-nil}
 use lib.Signed.{_≤ℤ_}
-use Rattle.whole.specs.Arith.{neg, plus, minus, scaled, rowValue, Root}
+use Rattle.whole.specs.Arith.{neg, plus, minus, scaled, rowValue}
 use Rattle.whole.specs.Order.{Box, In}
 use Rattle.whole.proofs.Ints.{neg-minus, of-≤ℤ, below-minus, above-plus, no-minus, add-is, scaledN}
-use Rattle.whole.proofs.Roots.{root-below}
+use Rattle.whole.proofs.Roots.{Root, root-below}
 use Rattle.whole.proofs.Row.{pad}
 use Rattle.whole.proofs.Interval.{both, Between, reach-down, reach-up, by, in-scaled, _⊞_, in-add, only, enclose, enclosed, within, in-wider, upto, in-size}
 use Rattle.sea.specs.declared.Rows.{Rows}

@@ -63,3 +63,34 @@ pub one-page :
 one-page κs a r r′ s s′ e f =
     let count = e .1 .0 ∙ sym (f .1 .0) in
     (e .0 ∙ sym (f .0), (count, e .1 .1 ∙ ap (λ (n : ℕ). written n (pageOf (a .0 .now)) (a .1 .0 .now)) count ∙ sym (f .1 .1)))
+
+-- ---- nothing is asked of the caller: `Asked` is what a contract requires
+pub free-refusal : (κs : Lifetimes.Lfts 0) (a : _) → refusal.Asked κs a
+free-refusal κs a = tt
+
+pub free-density : (κs : Lifetimes.Lfts 0) (a : _) → density.Asked κs a
+free-density κs a = tt
+
+pub free-bulk : (κs : Lifetimes.Lfts 0) (a : _) → bulk.Asked κs a
+free-bulk κs a = tt
+
+pub free-channel : (κs : Lifetimes.Lfts 1) (a : _) → channel.Asked κs a
+free-channel κs a = tt
+
+pub free-needle : (κs : Lifetimes.Lfts 1) (a : _) → needle.Asked κs a
+free-needle κs a = tt
+
+pub free-recorder : (κs : Lifetimes.Lfts 0) (a : _) → recorder.Asked κs a
+free-recorder κs a = tt
+
+pub free-pairs : (κs : Lifetimes.Lfts 1) (a : _) → pairs.Asked κs a
+free-pairs κs a = tt
+
+pub free-pair : (κs : Lifetimes.Lfts 2) (a : _) → pair.Asked κs a
+free-pair κs a = tt
+
+pub free-line : (κs : Lifetimes.Lfts 2) (a : _) → line.Asked κs a
+free-line κs a = tt
+
+pub free-page : (κs : Lifetimes.Lfts 3) (a : _) → page.Asked κs a
+free-page κs a = tt

@@ -14,3 +14,13 @@ one-density κs a r r′ s s′ e f = e ∙ sym f
 
 pub one-bulk : (κs : Lifetimes.Lfts 0) (a : _) (r r′ : _) (s s′ : _) → bulk.Learnt κs a r s → bulk.Learnt κs a r′ s′ → r ≡ r′
 one-bulk κs a r r′ s s′ e f = e ∙ sym f
+
+-- ---- nothing is asked of the caller: `Asked` is what a contract requires
+pub free-number : (κs : Lifetimes.Lfts 0) (a : _) → number.Asked κs a
+free-number κs a = tt
+
+pub free-density : (κs : Lifetimes.Lfts 0) (a : _) → density.Asked κs a
+free-density κs a = tt
+
+pub free-bulk : (κs : Lifetimes.Lfts 0) (a : _) → bulk.Asked κs a
+free-bulk κs a = tt

@@ -9,7 +9,12 @@ use native.Mathlib.Nat.{mul-le-mul, pow-suc}
 use lib.Count.{leadingZeros, leading-length}
 use lib.Pow.{pow-pos, pow-mono, pow-add}
 use lib.Dec.{T, leb, lit≤, leb→le, nleb→lt}
-use Rattle.whole.specs.Arith.{Root, rootOf, rootFrom}
+use Rattle.whole.specs.Arith.{rootOf, rootFrom}
+
+-- w is the greatest whole number whose square is at most n
+pub record Root (w n : ℕ) : Type 0 where
+  pub low : w * w ≤ n
+  pub high : n < (w + 1) * (w + 1)
 
 pub record Trial (n k w : ℕ) : Type 0 where
   pub low : w * w ≤ n

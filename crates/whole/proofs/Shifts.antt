@@ -8,8 +8,7 @@ use native.Mathlib.Nat.{mul-le-mul, mul-add, add-mul, mul-comm, mul-one, one-mul
 use lib.Count.{leadingZeros, leading-length}
 use lib.Pow.{pow-pos, pow-mono, pow-add, shl-exact}
 use lib.Dec.{lit<}
-use Rattle.whole.specs.Arith.{Root}
-use Rattle.whole.proofs.Roots.{Trial, trial-start, trial-taken, trial-left, trial-end, halves}
+use Rattle.whole.proofs.Roots.{Root, Trial, trial-start, trial-taken, trial-left, trial-end, halves}
 
 pub record Shifted (n b rest r : ℕ) : Type 0 where
   pub k : ℕ

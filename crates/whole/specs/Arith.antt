@@ -1,5 +1,5 @@
 -- Whole numbers as document 01, "The recipe in whole numbers", uses them: division rounded down, the scaled product, a row's value, the root.
-use Prim.Native.Nat.{ℕ, zero, suc, _+_, _*_, _/_, _^_, _≤_, _<_}
+use Prim.Native.Nat.{ℕ, zero, suc, _+_, _*_, _/_, _^_}
 use mathlib.Core.Bool.{cond}
 use mathlib.Core.List.{List, [], _∷_}
 use lib.Dec.{leb}
@@ -32,11 +32,6 @@ scaled h x = floorDiv (h *ℤ x) 100_000
 unfoldable pub rowValue : List ℤ → ℤ → ℤ
 rowValue [] t = pos 0
 rowValue (c ∷ cs) t = c +ℤ scaled (rowValue cs t) t
-
--- w is the greatest whole number whose square is at most n
-pub record Root (w n : ℕ) : Type 0 where
-  pub low : w * w ≤ n
-  pub high : n < (w + 1) * (w + 1)
 
 -- the root of n, below 2⁶⁴, bit by bit from 2³¹ down: a bit is kept where the square stays at most n.
 -- (It is the greatest whole number whose square is at most n, and the only one: `root-is`, `root-greatest` and `root-only` of proofs/Roots.)
