@@ -1,3 +1,3 @@
-mod Words
+pub mod Words
 pub mod Cases
 pub mod One

@@ -3,19 +3,11 @@
 use mathlib.Core.Path.{_≡_, sym, _∙_}
 use contract.Lifetimes
 use Rattle.abi.proofs.entry_of.Reads as entry-of
-use Rattle.abi.proofs.put_channel.Reads as put-channel
-use Rattle.abi.proofs.put_comparison.Reads as put-comparison
 use Rattle.abi.proofs.put_pair.Reads as put-pair
 use Rattle.abi.proofs.put_noughts.Reads as put-noughts
 
 pub one-entry-of : (κs : Lifetimes.Lfts 0) (a : _) (r r′ : _) (s s′ : _) → entry-of.Learnt κs a r s → entry-of.Learnt κs a r′ s′ → r ≡ r′
 one-entry-of κs a r r′ s s′ e f = e ∙ sym f
-
-pub one-put-channel : (κs : Lifetimes.Lfts 1) (a : _) (r r′ : _) (s s′ : _) → put-channel.Learnt κs a r s → put-channel.Learnt κs a r′ s′ → s .1 .0 .now ≡ s′ .1 .0 .now
-one-put-channel κs a r r′ s s′ e f = e ∙ sym f
-
-pub one-put-comparison : (κs : Lifetimes.Lfts 1) (a : _) (r r′ : _) (s s′ : _) → put-comparison.Learnt κs a r s → put-comparison.Learnt κs a r′ s′ → s .1 .0 .now ≡ s′ .1 .0 .now
-one-put-comparison κs a r r′ s s′ e f = e ∙ sym f
 
 pub one-put-pair : (κs : Lifetimes.Lfts 1) (a : _) (r r′ : _) (s s′ : _) → put-pair.Learnt κs a r s → put-pair.Learnt κs a r′ s′ → s .1 .0 .now ≡ s′ .1 .0 .now
 one-put-pair κs a r r′ s s′ e f = e ∙ sym f
@@ -26,12 +18,6 @@ one-put-noughts κs a r r′ s s′ e f = e ∙ sym f
 -- ---- nothing is asked of the caller: `Asked` is what a contract requires
 pub free-entry-of : (κs : Lifetimes.Lfts 0) (a : _) → entry-of.Asked κs a
 free-entry-of κs a = tt
-
-pub free-put-channel : (κs : Lifetimes.Lfts 1) (a : _) → put-channel.Asked κs a
-free-put-channel κs a = tt
-
-pub free-put-comparison : (κs : Lifetimes.Lfts 1) (a : _) → put-comparison.Asked κs a
-free-put-comparison κs a = tt
 
 pub free-put-pair : (κs : Lifetimes.Lfts 1) (a : _) → put-pair.Asked κs a
 free-put-pair κs a = tt

@@ -2,8 +2,7 @@
 ghost use mathlib.Core.Path.{_≡_};
 ghost use lib.Seq.{sets};
 ghost use Rattle.streams.specs.declared.Found.the-variants.{Nothing};
-ghost use Rattle.abi.specs.Abi.{entryOf, channelWords, comparisonWords, pairWords, foundWords};
-use channels::Channel;
+ghost use Rattle.abi.specs.Abi.{entryOf, pairWords, foundWords};
 use channels::Comparison;
 use readings::Entry;
 use readings::Report;
@@ -30,43 +29,6 @@ pub fn entry_of(kind: u32, salinity: f32, temperature: f32, pressure: f32) -> En
         return Entry::Refused(Unread::Length);
     }
     Entry::Refused(Unread::Kind)
-}
-
-// The grid numbers, the density and the bulk modulus of a channel; noughts if refused.
-pub fn put_channel(channel: Channel, out: &mut [i64; 5])
-    ensures { λ r. ⌜ now (out .exit) ≡ sets (now (out .entry)) 0 (channelWords channel) ⌝ }
-{
-    match channel {
-        Channel::Accepted { at, density, bulk } => {
-            let sigma = at.sigma;
-            let tau = at.tau;
-            let pi = at.pi;
-            out[0] = sigma;
-            out[1] = tau;
-            out[2] = pi;
-            out[3] = density as i64;
-            out[4] = bulk as i64;
-        }
-        Channel::Refused(_) => {
-            out[0] = 0;
-            out[1] = 0;
-            out[2] = 0;
-            out[3] = 0;
-            out[4] = 0;
-        }
-    }
-}
-
-// The two densities, 0 where refused, and the needle.
-pub fn put_comparison(pair: Comparison, out: &mut [i64; 3])
-    ensures { λ r. ⌜ now (out .exit) ≡ sets (now (out .entry)) 0 (comparisonWords pair) ⌝ }
-{
-    let l = pair.left;
-    let r = pair.right;
-    let needle = pair.needle;
-    out[0] = l.density() as i64;
-    out[1] = r.density() as i64;
-    out[2] = needle.value();
 }
 
 // Refusal, density and bulk modulus of both sides, refusal and value of the needle.

@@ -13,6 +13,7 @@ ghost use Rattle.texts.specs.Text.{lineOf, written};
 ghost use Rattle.lines.specs.Line.{wroteOf, wroteNumber, wroteCount};
 ghost use Rattle.pages.specs.Page.{pageOf, filledOf, filledNumber, filledCount};
 ghost use Rattle.abi.specs.Abi.{entryOf, channelWords, comparisonWords, foundNumber, foundWords};
+use channels::Channel;
 use streams::Found;
 
 // ---- grid numbers: sigma (salinity in 0.001), tau (0.001 degrees C), pi (0.01 bar)
@@ -56,8 +57,27 @@ pub extern "C" fn warpsorrel_channel(
     ensures { λ r. ⌜ now (out .exit) ≡ sets (now (out .entry)) 0 (channelWords (channelOf (entryOf kind salinity temperature pressure))) ⌝ }
 {
     let channel = panel::answer(abi::entry_of(kind, salinity, temperature, pressure));
-    abi::put_channel(channel, out);
-    channel.number()
+    match channel {
+        Channel::Accepted { at, density, bulk } => {
+            let sigma = at.sigma;
+            let tau = at.tau;
+            let pi = at.pi;
+            out[0] = sigma;
+            out[1] = tau;
+            out[2] = pi;
+            out[3] = density as i64;
+            out[4] = bulk as i64;
+            0
+        }
+        Channel::Refused(why) => {
+            out[0] = 0;
+            out[1] = 0;
+            out[2] = 0;
+            out[3] = 0;
+            out[4] = 0;
+            why.number()
+        }
+    }
 }
 
 // The needle of two reports: 0 or its refusal; out gets the left density, the right density (0 where refused) and the needle.
@@ -83,9 +103,12 @@ pub extern "C" fn warpsorrel_needle(
         right_temperature,
         right_pressure,
     );
-    let pair = panel::paired(left, right);
-    abi::put_comparison(pair, out);
-    let needle = pair.needle;
+    let l = panel::answer(left);
+    let r = panel::answer(right);
+    let needle = panel::compare(l, r);
+    out[0] = l.density() as i64;
+    out[1] = r.density() as i64;
+    out[2] = needle.value();
     needle.number()
 }
 
