@@ -1,5 +1,5 @@
--- What the loop of `root` keeps, over the trial bits of Roots: with k bits left and w the root so far, b is 4ᵏ, r is w·2ᵏ, and rest
--- is n less the square of w, so that a trial bit's square is tested by a sum. Assumes nothing.
+-- What the loop of `root` keeps, over the trial bits of Roots: with k bits left and w the root so far, b is a quarter of 4ᵏ, rounded
+-- down, r is w·2ᵏ, and rest is n less the square of w, so that a trial bit's square is tested by a sum. Assumes nothing.
 use mathlib.Core.Path.{_≡_, sym, ap, _∙_, subst}
 use Prim.Native.Nat.{ℕ, _+_, _*_, _-_, _/_, _%_, _^_, _<_, _≤_}
 use native.Mathlib.Omega.{arith}
@@ -14,7 +14,7 @@ pub record Shifted (n b rest r : ℕ) : Type 0 where
   pub k : ℕ
   pub w : ℕ
   pub trial : Trial n k w
-  pub b-is : b ≡ 2 ^ k * 2 ^ k
+  pub b-is : b ≡ 2 ^ k * 2 ^ k / 4
   pub r-is : r ≡ w * 2 ^ k
   pub rest-is : rest + w * w ≡ n
 
@@ -34,7 +34,7 @@ first-few n h =
     let l = leading-length 64 n (omega arith) in
     omega (arith, l .1, length-few (l .0) n h (l .3))
 
-pub shifted-start : (n : ℕ) → n < 2 ^ 62 → Shifted n ((1 * 2 ^ (2 * ((65 - leadingZeros 64 n) / 2))) % 2 ^ 64) n 0
+pub shifted-start : (n : ℕ) → n < 2 ^ 62 → Shifted n ((1 * 2 ^ (2 * ((65 - leadingZeros 64 n) / 2))) % 2 ^ 64 / 4) n 0
 shifted-start n h =
     let j = (65 - leadingZeros 64 n) / 2 in
     let e : 2 * j ≡ j + j = omega arith in
@@ -42,7 +42,7 @@ shifted-start n h =
       k = j;
       w = 0;
       trial = trial-start n (omega arith);
-      b-is = shl-exact 1 (2 * j) 64 (lit< tt) (omega (arith, first-few n h)) ∙ one-mul (2 ^ (2 * j)) ∙ ap (λ (m : ℕ). 2 ^ m) e ∙ pow-add 2 j j;
+      b-is = rw (shl-exact 1 (2 * j) 64 (lit< tt) (omega (arith, first-few n h)), one-mul (2 ^ (2 * j)), e, pow-add 2 j j);
       r-is = omega arith;
       rest-is = omega arith;
     }
@@ -54,7 +54,7 @@ double-square h = omega (arith, mul-add (h + h) h h, add-mul h h h)
 sum-square : (w h : ℕ) → (w + h) * (w + h) ≡ w * w + (2 * (w * h) + h * h)
 sum-square w h = omega (arith, mul-add (w + h) w h, add-mul w h w, add-mul w h h, mul-comm h w)
 
-module _ (n b rest r : ℕ) (i : Shifted n b rest r) (g : 1 < b) where
+module _ (n b rest r : ℕ) (i : Shifted n b rest r) (g : 0 < b) where
   abbrev h : ℕ
   h = 2 ^ (i .k - 1)
 
@@ -65,47 +65,47 @@ module _ (n b rest r : ℕ) (i : Shifted n b rest r) (g : 1 < b) where
       go (yes p) = p
       go (no q) =
           let e : i .k ≡ 0 = omega arith in
-          let f : b ≡ 1 = i .b-is ∙ ap (λ (m : ℕ). 2 ^ m * 2 ^ m) e in
+          let f : b ≡ 0 = i .b-is ∙ ap (λ (m : ℕ). 2 ^ m * 2 ^ m / 4) e in
           absurd (omega arith)
 
-  b-quarter : b / 4 ≡ h * h
-  b-quarter =
-      let e : b ≡ 4 * (h * h) = i .b-is ∙ ap (λ (m : ℕ). m * m) (sym (halves (i .k) k-above)) ∙ double-square h in
-      omega arith
+  b-square : b ≡ h * h
+  b-square =
+      let e : 2 ^ (i .k) * 2 ^ (i .k) ≡ 4 * (h * h) = ap (λ (m : ℕ). m * m) (sym (halves (i .k) k-above)) ∙ double-square h in
+      omega (arith, i .b-is)
 
   r-double : r ≡ 2 * (i .w * h)
   r-double = i .r-is ∙ ap (λ (m : ℕ). i .w * m) (sym (halves (i .k) k-above)) ∙ (mul-add (i .w) h h ∙ omega arith)
 
   -- the trial's square, by a sum
-  square : (i .w + h) * (i .w + h) ≡ i .w * i .w + (r + b / 4)
-  square = omega (arith, sum-square (i .w) h, b-quarter, r-double)
+  square : (i .w + h) * (i .w + h) ≡ i .w * i .w + (r + b)
+  square = omega (arith, sum-square (i .w) h, b-square, r-double)
 
-  pub sum-small : r + b / 4 < 2 ^ 64
+  pub sum-small : r + b < 2 ^ 64
   sum-small =
       let top : i .w + h ≤ 4_294_967_295 = omega (arith, halves (i .k) k-above, i .trial .top, pow-pos (i .k - 1)) in
       omega (arith, square, mul-le-mul top top)
 
-  pub shifted-taken : r + b / 4 ≤ rest → Shifted n (b / 4) (rest - (r + b / 4)) (r / 2 + b / 4)
+  pub shifted-taken : r + b ≤ rest → Shifted n (b / 4) (rest - (r + b)) (r / 2 + b)
   shifted-taken l = record {
     k = i .k - 1;
     w = i .w + h;
     trial = trial-taken n (i .k) (i .w) (i .trial) k-above (omega (arith, square, i .rest-is));
-    b-is = b-quarter;
-    r-is = omega (arith, r-double, b-quarter, add-mul (i .w) h h);
+    b-is = rw b-square;
+    r-is = omega (arith, r-double, b-square, add-mul (i .w) h h);
     rest-is = omega (arith, square, i .rest-is);
   }
 
-  pub shifted-left : rest < r + b / 4 → Shifted n (b / 4) rest (r / 2)
+  pub shifted-left : rest < r + b → Shifted n (b / 4) rest (r / 2)
   shifted-left l = record {
     k = i .k - 1;
     w = i .w;
     trial = trial-left n (i .k) (i .w) (i .trial) k-above (omega (arith, square, i .rest-is));
-    b-is = b-quarter;
+    b-is = rw b-square;
     r-is = omega (arith, r-double);
     rest-is = i .rest-is;
   }
 
-pub shifted-end : (n b rest r : ℕ) → Shifted n b rest r → b ≤ 1 → Root r n
+pub shifted-end : (n b rest r : ℕ) → Shifted n b rest r → b ≤ 0 → Root r n
 shifted-end n b rest r i l =
     let z : i .k ≤ 0 = go (decLe (i .k) 0) in
     let e : i .k ≡ 0 = omega arith in

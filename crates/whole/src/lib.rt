@@ -40,23 +40,26 @@ pub fn row_value(row: [i64; 6], t: i64) -> i64
 }
 
 // The greatest whole number whose square is at most n. The leading bit of n fixes the first trial bit. With j bits
-// left, b is 4 to the j, r is the root so far times 2 to the j, and rest is what n exceeds its square by.
+// left, b is a quarter of 4 to the j (0 when none is left), r is the root so far times 2 to the j, and rest is what n
+// exceeds its square by.
 pub fn root(n: u64) -> u64
     requires { ⌜ n < 2 ^ 62 ⌝ }
     ensures { λ w. ⌜ w ≡ the.rootOf n ⌝ }
 {
     let bits = (65 - u64::leading_zeros(n)) / 2;
-    let mut b: u64 = 1 << (2 * bits);
+    let mut b: u64 = (1 << (2 * bits)) >> 2;
     let mut rest = n;
     let mut r: u64 = 0;
-    while 1 < b {
-        b = b >> 2;
+    while 0 < b {
         let t = r + b;
-        r = r >> 1;
-        if t <= rest {
+        let half = r >> 1;
+        if rest < t {
+            r = half;
+        } else {
             rest = rest - t;
-            r = r + b;
+            r = half + b;
         }
+        b = b >> 2;
     }
     r
 }

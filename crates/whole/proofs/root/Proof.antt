@@ -1,5 +1,6 @@
 -- `whole::root` meets its contract. The invariant is `Shifted`, the measure the trial bit's square. Assumes nothing.
 use Prim.Native.Nat.{_<_, _-_, _^_}
+use mathlib.Core.Logic.{⊎-elim}
 use native.Mathlib.Omega.{arith}
 use lib.Count.{leading-le}
 use Rattle.whole.proofs.Roots.{root-is, root-only}
@@ -38,13 +39,14 @@ loop-less : tie.Need-loop-less Inv-loop μ-loop
 loop-less c = omega arith
 
 loop-again : tie.Need-loop-again Inv-loop μ-loop
-loop-again c = let l = c .before .before .loop in (shifted-taken _ _ _ _ (l .inv .0) (c .before .loop-test .taken) (c .if1 .taken), l .inv .1)
-
-loop-less-2 : tie.Need-loop-less-2 Inv-loop μ-loop
-loop-less-2 c = omega arith
-
-loop-again-2 : tie.Need-loop-again-2 Inv-loop μ-loop
-loop-again-2 c = let l = c .before .before .loop in (shifted-left _ _ _ _ (l .inv .0) (c .before .loop-test .taken) (c .if1 .left), l .inv .1)
+loop-again c =
+    let i = c .before .before .loop .inv in
+    let p = c .before .loop-test .taken in (
+      ⊎-elim (λ w. rw (w .1, w .2) (shifted-left _ _ _ _ (i .0) p (w .0 .taken)))
+          (λ w. rw (w .1, w .2) (shifted-taken _ _ _ _ (i .0) p (w .0 .left)))
+          (c .if1 .came),
+      i .1,
+    )
 
 returns : tie.Need-returns Inv-loop μ-loop
 returns c =
@@ -52,4 +54,4 @@ returns c =
     root-only _ _ _ (shifted-end _ _ _ _ (l .inv .0) (c .loop-test .left)) (root-is (c .before .before .args .n) (omega (arith, l .inv .1)))
 
 pub root-spec : {M : Type 1} → statement M
-root-spec = tie.close (tie.spec Inv-loop μ-loop sub-bits mul-b cast-b shl-b loop-holds add-t add-r loop-less loop-again loop-less-2 loop-again-2 returns)
+root-spec = tie.close (tie.spec Inv-loop μ-loop sub-bits mul-b cast-b shl-b loop-holds add-t add-r loop-less loop-again returns)
