@@ -146,8 +146,9 @@ fn parcel_at(sigma: i64, tau: i64) -> Parcel
     requires { ⌜ Lies (pos 0) (pos 42_000) sigma ⌝ ∗ ⌜ Lies (neg 2_000) (pos 40_000) tau ⌝ }
     ensures { λ x. ⌜ x ≡ the.parcelAt (plus sigma) tau ⌝ }
 {
+    let rows = rows_at(tau);
     let w = whole::root(whole::unsigned(sigma) * 100000);
-    combined(rows_at(tau), sigma, whole::signed(w))
+    combined(rows, sigma, whole::signed(w))
 }
 
 // The bulk modulus K at a pressure.
