@@ -1,5 +1,3 @@
-pub mod Decimal
-mod Signs
-pub mod Stores
+pub mod Row
 pub mod Widths
 pub mod One

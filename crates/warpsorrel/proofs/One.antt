@@ -3,7 +3,8 @@
 use mathlib.Core.Path.{_≡_, sym, ap, _∙_}
 use Prim.Native.Nat.{ℕ}
 use contract.Lifetimes
-use Rattle.texts.specs.Text.{lineOf, written}
+use Rattle.cells.specs.Cells.{written}
+use Rattle.texts.specs.Text.{lineOf}
 use Rattle.pages.specs.Page.{pageOf}
 use Rattle.abi.specs.Abi.{entryOf}
 use Rattle.warpsorrel.proofs.warpsorrel_refusal.Reads as refusal

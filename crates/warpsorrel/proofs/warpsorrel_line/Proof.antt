@@ -4,7 +4,8 @@ use mathlib.Core.Path.{sym, ap, ap₂, _∙_}
 use mathlib.Core.List.{List}
 use borrow.Author.Needs.{needs}
 use lib.ListN.{length}
-use Rattle.texts.specs.Text.{lineOf, written}
+use Rattle.cells.specs.Cells.{written}
+use Rattle.texts.specs.Text.{lineOf}
 use Rattle.lines.specs.Line.{wroteOf, wroteNumber, wroteCount}
 use Rattle.warpsorrel.proofs.warpsorrel_line.Statement.{statement}
 use Rattle.warpsorrel.proofs.warpsorrel_line.Tie as tie

@@ -2,7 +2,7 @@
 use borrow.Author.Needs.{needs}
 use Prim.Native.Nat.{ℕ}
 use mathlib.Core.Path.{sym, ap, _∙_}
-use Rattle.texts.specs.Text.{written}
+use Rattle.cells.specs.Cells.{written}
 use Rattle.pages.specs.Page.{pageOf, filledNumber, filledCount}
 use Rattle.warpsorrel.proofs.warpsorrel_page.Statement.{statement}
 use Rattle.warpsorrel.proofs.warpsorrel_page.Tie as tie
