@@ -7,3 +7,5 @@ mod Rows
 mod Copy
 pub mod Widths
 mod Signs
+pub mod Cases
+pub mod One

@@ -1,3 +1,5 @@
 mod Rows
 pub mod Widths
 pub mod Answers
+mod Example
+pub mod One
