@@ -7,6 +7,7 @@ use Rattle.cells.specs.Cells.{written}
 use Rattle.texts.specs.Text.{lineOf}
 use Rattle.pages.specs.Page.{pageOf}
 use Rattle.abi.specs.Abi.{entryOf}
+use Rattle.warpsorrel.proofs.warpsorrel_version.Reads as version
 use Rattle.warpsorrel.proofs.warpsorrel_refusal.Reads as refusal
 use Rattle.warpsorrel.proofs.warpsorrel_density.Reads as density
 use Rattle.warpsorrel.proofs.warpsorrel_bulk.Reads as bulk
@@ -17,6 +18,9 @@ use Rattle.warpsorrel.proofs.warpsorrel_pairs.Reads as pairs
 use Rattle.warpsorrel.proofs.warpsorrel_pair.Reads as pair
 use Rattle.warpsorrel.proofs.warpsorrel_line.Reads as line
 use Rattle.warpsorrel.proofs.warpsorrel_page.Reads as page
+
+pub one-version : (κs : Lifetimes.Lfts 0) (a : _) (r r′ : _) (s s′ : _) → version.Learnt κs a r s → version.Learnt κs a r′ s′ → r ≡ r′
+one-version κs a r r′ s s′ e f = e ∙ sym f
 
 pub one-refusal : (κs : Lifetimes.Lfts 0) (a : _) (r r′ : _) (s s′ : _) → refusal.Learnt κs a r s → refusal.Learnt κs a r′ s′ → r ≡ r′
 one-refusal κs a r r′ s s′ e f = e ∙ sym f
@@ -66,6 +70,9 @@ one-page κs a r r′ s s′ e f =
     (e .0 ∙ sym (f .0), (count, e .1 .1 ∙ ap (λ (n : ℕ). written n (pageOf (a .0 .now)) (a .1 .0 .now)) count ∙ sym (f .1 .1)))
 
 -- ---- nothing is asked of the caller: `Asked` is what a contract requires
+pub free-version : (κs : Lifetimes.Lfts 0) (a : _) → version.Asked κs a
+free-version κs a = tt
+
 pub free-refusal : (κs : Lifetimes.Lfts 0) (a : _) → refusal.Asked κs a
 free-refusal κs a = tt
 

@@ -13,9 +13,19 @@ ghost use Rattle.cells.specs.Cells.{written};
 ghost use Rattle.texts.specs.Text.{lineOf};
 ghost use Rattle.lines.specs.Line.{wroteOf, wroteNumber, wroteCount};
 ghost use Rattle.pages.specs.Page.{pageOf, filledOf, filledNumber, filledCount};
-ghost use Rattle.abi.specs.Abi.{entryOf, channelWords, comparisonWords, foundNumber, foundWords};
+ghost use Rattle.abi.specs.Abi.{version, entryOf, channelWords, comparisonWords, foundNumber, foundWords};
 use channels::Channel;
 use streams::Found;
+
+pub const VERSION: u32 = 1;
+
+// The ABI's own number.
+#[no_mangle]
+pub extern "C" fn warpsorrel_version() -> u32
+    ensures { λ r. ⌜ r ≡ version ⌝ }
+{
+    VERSION
+}
 
 // ---- grid numbers: sigma (salinity in 0.001), tau (0.001 degrees C), pi (0.01 bar)
 
