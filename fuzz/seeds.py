@@ -1,4 +1,4 @@
-"""seeds.py FOLDER: the streams that the fuzzer starts from: document 01's example, each kind of record and each refusal of one."""
+"""seeds.py FOLDER: the streams that the fuzzer starts from: SPEC's example, each kind of record and each refusal of one."""
 import os
 import struct
 import sys

@@ -5,7 +5,7 @@
 
 The definition (crates/sea/specs/Table.antt) and the code (ROWS in crates/sea/src/lib.rt) are proved to agree, and checked at nine
 points. A coefficient that is wrong in both, below its printed digits, would pass all that. So both are read here and compared,
-exactly, with document 01's decimals and with UNESCO's, each typed in on its own. Then both are changed in memory, one place at a
+exactly, with SPEC's decimals and with UNESCO's, each typed in on its own. Then both are changed in memory, one place at a
 time, to see that the comparison would notice.
 """
 import itertools
@@ -18,7 +18,7 @@ ROOT = Path(__file__).resolve().parent.parent
 TABLE = ROOT / "crates/sea/specs/Table.antt"
 CODE = ROOT / "crates/sea/src/lib.rt"
 
-# Document 01, on the common scale: u is degrees C/100, v is salinity/100, q is bar/1,000; lowest power of u first.
+# SPEC, on the common scale: u is degrees C/100, v is salinity/100, q is bar/1,000; lowest power of u first.
 DOCUMENT = """
 Dw 999.842594 6.793952 -90.95290 100.1685 -112.0083 65.36332
 Ds 82.4493 -40.899 76.438 -82.467 53.875
@@ -160,7 +160,7 @@ def differences(table_text, code_text):
                 if printed != document[row][i]:
                     wrong.add(("Table.antt", "the digits printed", NAMES[row], i))
                 if number != Fraction(document[row][i]) * 10**9:
-                    wrong.add(("Table.antt", "document 01", NAMES[row], i))
+                    wrong.add(("Table.antt", "SPEC", NAMES[row], i))
                 if number != papers[row][i]:
                     wrong.add(("Table.antt", "UNESCO's papers", NAMES[row], i))
     except Unreadable as why:
@@ -170,7 +170,7 @@ def differences(table_text, code_text):
             for i, (start, end) in enumerate(spans):
                 number, past = int(code_text[start:end]), i >= LENGTHS[row]
                 if number != (0 if past else Fraction(document[row][i]) * 10**9):
-                    wrong.add(("ROWS", "document 01", NAMES[row], i))
+                    wrong.add(("ROWS", "SPEC", NAMES[row], i))
                 if number != (0 if past else papers[row][i]):
                     wrong.add(("ROWS", "UNESCO's papers", NAMES[row], i))
     except Unreadable as why:
@@ -195,7 +195,7 @@ def nine_places(units):
 
 def changed_numbers(table, code):
     """Each coefficient one unit of 10^-9 higher, one lower, and with its sign turned: all of the exact comparisons have to see it."""
-    exact = list(itertools.product(("Table.antt", "ROWS"), ("document 01", "UNESCO's papers")))
+    exact = list(itertools.product(("Table.antt", "ROWS"), ("SPEC", "UNESCO's papers")))
     table_spans, code_spans = table_rows(table), code_rows(code)
     for row, name in enumerate(NAMES):
         for i in range(LENGTHS[row]):

@@ -18,7 +18,7 @@ from itertools import product
 from math import floor, isqrt, sqrt
 
 sys.dont_write_bytecode = True
-import coefficients  # as UNESCO's papers print them, held to document 01 and to the code
+import coefficients  # as UNESCO's papers print them, held to SPEC and to the code
 
 # kg/m3: half a step in each and in all three, what is proved, and the sum of the last two.
 BOUNDS = {"salinity": 0.00043, "temperature": 0.00023, "pressure": 0.00027, "together": 0.0008}

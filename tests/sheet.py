@@ -72,7 +72,7 @@ class Sheet(Trial):
     def examples(self):
         self.two_intakes()
         self.texts()
-        # The bytes that the page for probe builders takes apart are document 01's.
+        # The bytes that the page for probe builders takes apart are SPEC's.
         shown = re.findall(r"^((?:[0-9A-F]{2} {1,2})+)", (ROOT / "docs" / "FORMAT.md").read_text("utf-8"), re.M)
         if bytes.fromhex("".join(shown)) != EXAMPLE:
             self.wrong("docs/FORMAT.md: the bytes taken apart are not the example's", f"got: {shown}")

@@ -1,4 +1,4 @@
--- Document 01's number and values for each answer of a channel and of a needle.
+-- SPEC's number and values for each answer of a channel and of a needle.
 use Prim.Native.Nat.{ℕ}
 use lib.IntN.{ℤ, pos}
 use Rattle.refusals.specs.Number.{numberOf}

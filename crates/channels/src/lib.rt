@@ -23,7 +23,7 @@ pub struct Comparison {
     pub needle: Needle,
 }
 
-// The paper's number and values for each case: a refused channel has noughts.
+// SPEC's number and values for each case: a refused channel has noughts.
 impl Channel {
     pub fn number(self) -> u32
         ensures { λ r. ⌜ r ≡ channelNumber self ⌝ }

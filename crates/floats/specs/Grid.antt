@@ -1,4 +1,4 @@
--- Document 01, "A reading": a float's exact value as a fraction, the range test on it, and its grid number.
+-- SPEC, "A reading": a float's exact value as a fraction, the range test on it, and its grid number.
 use Prim.Native.Nat.{ℕ, _*_}
 use mathlib.Core.Bool.{Bool, true, false, cond, _&&_}
 use lib.IntN.{ℤ, pos, negℤ, _+ℤ_, _*ℤ_}
@@ -36,7 +36,7 @@ AtMost x y = (numer x *ℤ pos (denom y)) ≤ℤ (numer y *ℤ pos (denom x))
 abbrev pub Same : Float → Float → Type 0
 Same x y = AtMost x y × AtMost y x
 
--- a row of document 01's table: the ends as grid numbers, and the grid's steps to 1
+-- a row of SPEC's table: the ends as grid numbers, and the grid's steps to 1
 pub record Range : Type 0 where
   pub low : ℤ
   pub high : ℤ

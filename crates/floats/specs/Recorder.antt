@@ -1,4 +1,4 @@
--- Document 01, "Recorder float".
+-- SPEC, "Recorder float".
 use Prim.Native.Nat.{ℕ}
 use mathlib.Core.Bool.{false, cond}
 use lib.Dec.{ltb}

@@ -1,4 +1,4 @@
--- The two waters of document 01's example, as the panel answers them: computed from the floats' bits to the shown density. Assumes nothing.
+-- The two waters of SPEC's example, as the panel answers them: computed from the floats' bits to the shown density. Assumes nothing.
 use mathlib.Core.Path.{_≡_, refl}
 use lib.IntN.{pos}
 use lib.Ieee.{ofBits}

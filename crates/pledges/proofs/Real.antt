@@ -1,4 +1,4 @@
--- Nothing here is empty: what the pledges are about holds of real readings, the two waters of document 01's example and one of them at 1,000
+-- Nothing here is empty: what the pledges are about holds of real readings, the two waters of SPEC's example and one of them at 1,000
 -- bar. Assumes nothing.
 use Prim.Native.Nat.{_≤_}
 use mathlib.Core.Path.{_≡_, refl, sym}

@@ -1,4 +1,4 @@
--- The published formula as document 01 puts it for demand 3: the same rows and grid numbers and K/(K − P), in fractions and with
+-- The published formula as SPEC puts it for demand 3: the same rows and grid numbers and K/(K − P), in fractions and with
 -- no rounding. v is σ/100,000, u is τ/100,000, q is π/100,000; x stands in place of √v.
 use Prim.Native.Nat.{ℕ}
 use mathlib.Core.List.{List}

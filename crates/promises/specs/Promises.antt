@@ -1,4 +1,4 @@
--- Demand 3: what is promised of the shown densities and of the needle, in document 01's words and numbers. Proved in proofs/Promises.
+-- Demand 3: what is promised of the shown densities and of the needle, in SPEC's words and numbers. Proved in proofs/Promises.
 use Prim.Native.Nat.{ℕ, _+_, _≤_, _<_}
 use lib.IntN.{ℤ, pos, _-ℤ_}
 use lib.Signed.{_≤ℤ_}

@@ -1,4 +1,4 @@
--- What an answer says of its report, in the laws' words: a point on document 01's grid, or the refusal's reason. Assumes nothing.
+-- What an answer says of its report, in the laws' words: a point on SPEC's grid, or the refusal's reason. Assumes nothing.
 use mathlib.Core.Path.{_≡_}
 use mathlib.Core.Bool.{true, false}
 use lib.IntN.{pos}

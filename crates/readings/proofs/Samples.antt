@@ -1,4 +1,4 @@
--- Document 01's worked readings and the limits from both sides: one list, one theorem, by computation. Assumes nothing.
+-- SPEC's worked readings and the limits from both sides: one list, one theorem, by computation. Assumes nothing.
 use mathlib.Core.Path.{_≡_, refl}
 use mathlib.Core.List.{List, [], _∷_, map}
 use Prim.Native.Nat.{ℕ}

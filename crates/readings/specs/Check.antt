@@ -1,4 +1,4 @@
--- Document 01, "A reading" and the rows 1 to 5 of "Refusal numbers and their order": what becomes of a report.
+-- SPEC, "A reading" and the rows 1 to 5 of "Refusal numbers and their order": what becomes of a report.
 use mathlib.Core.Bool.{Bool, true, false, _&&_}
 use lib.IntN.{pos}
 use lib.Ieee.{Float, fin}

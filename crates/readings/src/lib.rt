@@ -146,7 +146,7 @@ impl Reading {
     }
 }
 
-// Checks 1 to 5 in document 01's order: the first that applies is the answer.
+// Checks 1 to 5 in SPEC's order: the first that applies is the answer.
 pub fn check(report: Report) -> Checked
     ensures { λ r. ⌜ r ≡ checkedOf report ⌝ }
 {

@@ -1,4 +1,4 @@
--- Document 01, "Refusal numbers and their order": the number of each refusal.
+-- SPEC, "Refusal numbers and their order": the number of each refusal.
 use Prim.Native.Nat.{ℕ}
 use Rattle.refusals.specs.declared.Refusal.{Refusal}
 use Rattle.refusals.specs.declared.Refusal.the-variants.{Missing, NotFinite, Salinity, Temperature, Pressure, Cut, Kind, Length, Room, PairNumber}

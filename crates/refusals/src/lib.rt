@@ -2,7 +2,7 @@
 ghost use mathlib.Core.Path.{_≡_};
 ghost use Rattle.refusals.specs.Number.{numberOf, refusalOf};
 
-// One case for each number of document 01's list.
+// One case for each number of SPEC's list.
 pub enum Refusal {
     Missing,
     NotFinite,

@@ -1,4 +1,4 @@
--- The proved set of document 01, "Check points": eight densities, the bulk modulus at (0, 5, 0) and three roots, as one list
+-- The proved set of SPEC, "Check points": eight densities, the bulk modulus at (0, 5, 0) and three roots, as one list
 -- of things to work out with what each must be, and one theorem over it, which is computed. Then D, K0, A, B and K in 10⁻⁹ at two odd readings,
 -- where every product that is rounded at all leaves a rest: a product rounded otherwise would hardly show in a density. Assumes nothing.
 use Prim.Native.Nat.{ℕ}

@@ -1,4 +1,4 @@
--- Document 01, "The recipe in whole numbers": D, K and the density from the grid numbers σ, τ, π. Rows, D and K are in units of 10⁻⁹.
+-- SPEC, "The recipe in whole numbers": D, K and the density from the grid numbers σ, τ, π. Rows, D and K are in units of 10⁻⁹.
 -- (D is above 0 and K above the pressure for every reading on the grid, so that `plus` and `-` cut nothing off: `ranges` of proofs/Sizes.)
 use Prim.Native.Nat.{ℕ, _+_, _*_, _-_, _/_}
 use lib.IntN.{ℤ, pos, _+ℤ_}

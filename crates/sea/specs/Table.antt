@@ -1,4 +1,4 @@
--- The published coefficients on one common scale, as document 01 prints them: u is °C/100, v is salinity/100, q is bar/1,000; lowest
+-- The published coefficients on one common scale, as SPEC prints them: u is °C/100, v is salinity/100, q is bar/1,000; lowest
 -- power of u first. Each stands by its printed digits, with _ for the point, and the count of those after the point. Sources: Millero and
 -- Poisson (1981) for the D rows, Millero, Chen, Bradshaw and Schleicher (1980), printed in UNESCO Technical Papers in Marine Science 38
 -- and 44, for the K, A and B rows.

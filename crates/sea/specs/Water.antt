@@ -1,4 +1,4 @@
--- The answer of a call on grid numbers: document 01 refuses those outside the grid table by 3, 4 and 5, in this order, with noughts.
+-- The answer of a call on grid numbers: SPEC refuses those outside the grid table by 3, 4 and 5, in this order, with noughts.
 use mathlib.Core.Bool.{cond}
 use lib.IntN.{ℤ, pos}
 use lib.Signed.{leZ}

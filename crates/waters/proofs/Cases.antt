@@ -1,4 +1,4 @@
--- Document 01's number and values of each answer, in numbers: what a definition and its code would have to get wrong together is held to
+-- SPEC's number and values of each answer, in numbers: what a definition and its code would have to get wrong together is held to
 -- literals here. Assumes nothing.
 use mathlib.Core.Path.{_≡_, refl}
 use Prim.Native.Nat.{ℕ}

@@ -1,4 +1,4 @@
--- Document 01's number and values for each answer of a call on grid numbers: the refusal's number (0 for none), the shown density, the bulk modulus.
+-- SPEC's number and values for each answer of a call on grid numbers: the refusal's number (0 for none), the shown density, the bulk modulus.
 use Prim.Native.Nat.{ℕ}
 use Rattle.refusals.specs.Number.{numberOf}
 use Rattle.waters.specs.declared.Water.{Water}

@@ -9,7 +9,7 @@ pub enum Water {
     Refused(Refusal),
 }
 
-// The paper's number and values for each case: a refused water has noughts.
+// SPEC's number and values for each case: a refused water has noughts.
 impl Water {
     pub fn number(self) -> u32
         ensures { λ r. ⌜ r ≡ waterNumber self ⌝ }

@@ -1,4 +1,4 @@
--- Whole numbers as document 01, "The recipe in whole numbers", uses them: division rounded down, the scaled product, a row's value, the root.
+-- Whole numbers as SPEC, "The recipe in whole numbers", uses them: division rounded down, the scaled product, a row's value, the root.
 use Prim.Native.Nat.{ℕ, zero, suc, _+_, _*_, _/_, _^_}
 use mathlib.Core.Bool.{cond}
 use mathlib.Core.List.{List, [], _∷_}

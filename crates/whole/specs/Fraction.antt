@@ -1,4 +1,4 @@
--- Fractions, in which document 01 puts the published formula: a pair of whole numbers, the lower one above 0; two are compared by multiplying across.
+-- Fractions, in which SPEC puts the published formula: a pair of whole numbers, the lower one above 0; two are compared by multiplying across.
 use Prim.Native.Nat.{ℕ, _*_}
 use mathlib.Core.List.{List, [], _∷_}
 use lib.IntN.{ℤ, pos, _+ℤ_, _*ℤ_, _-ℤ_}
