@@ -1,5 +1,6 @@
-/* bench check: whether plain C and the library give the same answers. bench time: how many a second, side by side. bench once WHAT DATA:
- * one turn over the smaller data, for an instruction count. A result is a line: what, data, who, figure, unit. */
+/* bench check: whether C and the library give the same answers. bench time: how many a second, side by side. bench once WHAT DATA WHO: one turn
+ * over the smaller data, for an instruction count; bench never WHAT DATA WHO: all but that turn, for what such a count is too high by.
+ * A result is a line: what, data, who, figure, unit. */
 #include <stdio.h>
 #include <stdlib.h>
 #include <string.h>
@@ -63,6 +64,37 @@ static void take_stream(const char *which) {
     }
 }
 
+static const char *const shapes[] = {"accepted", "refused", "sheet"};
+/* Rows in a timed turn, so many that no processor learns them by heart; the longest row, with bytes to spare. */
+#define ROWS 2048
+#define ROW 64
+static struct row rows[MOST];
+static uint8_t table[ROWS * ROW];
+
+static int density_of(const struct reading *r) {
+    return (int)warpsorrel_density(r->sigma, r->tau, r->pi);
+}
+
+/* The uniform readings two by two, as details prints them, or all of them missing; or as the sheet does, which is through with them after half
+ * the rows and starts again. */
+static void take_rows(const char *which) {
+    take_readings(waters[0]);
+    for (int i = 0; i < MOST; i++) {
+        const struct reading *r = &readings[i];
+        int number = i / 2 + 1, side = i % 2;
+        if (which == shapes[0]) {
+            int density = density_of(r), bulk = (int)warpsorrel_bulk(r->sigma, r->tau, r->pi);
+            rows[i] = (struct row){ACCEPTED, number, side, {(int)r->sigma, (int)r->tau, (int)r->pi, density, bulk},
+                                   {r->s, r->t, r->p, density / 1000.0, bulk / 100.0}};
+        } else if (which == shapes[1]) {
+            rows[i] = (struct row){REFUSED, number, side, {1, 1, 1, 1, 1}, {0}};
+        } else {
+            int pair = i % (MOST / 2), left = density_of(&readings[2 * pair]), right = density_of(&readings[2 * pair + 1]);
+            rows[i] = (struct row){SHEET, pair + 1, 0, {left, right, right - left}, {left, right, right - left}};
+        }
+    }
+}
+
 /* ---- what is measured; each gives a number that depends on every answer */
 
 #define GRID(name, density) \
@@ -117,11 +149,22 @@ static uint64_t double_needle(int n) {
 PAGE(library_page, warpsorrel_page)
 PAGE(c_page, plain_page)
 
+/* One after the other, as a table has them. */
+#define ROWS_BY(name, put) \
+    static uint64_t name(int n) { \
+        size_t at = 0; \
+        for (int i = 0; i < n; i++) at = put(&rows[i], table, sizeof table, at); \
+        return at; \
+    }
+ROWS_BY(library_rows, library_row)
+ROWS_BY(whole_rows, whole_row)
+ROWS_BY(double_rows, double_row)
+
 static const struct work {
     const char *what, *who;
     uint64_t (*run)(int);
-    int many, few; /* readings or pages in a timed turn, in a counted one */
-    double answers; /* a turn's answers to a reading or page */
+    int many, few; /* readings, pages or rows in a timed turn, in a counted one */
+    double answers; /* a turn's answers to a reading, page or row */
     const char *unit;
 } works[] = {
     {"reading", "library", library_grid, MOST, FEW, 1, "million"},
@@ -134,16 +177,22 @@ static const struct work {
     {"needle", "double", double_needle, MOST, FEW, 0.5, "million"},
     {"page", "library", library_page, 2, 1, 1, "thousand"},
     {"page", "plain", c_page, 2, 1, 1, "thousand"},
+    {"row", "library", library_rows, ROWS, FEW / 5, 1, "million rows"},
+    {"row", "snprintf", whole_rows, ROWS, FEW / 5, 1, "million rows"},
+    {"row", "snprintf-double", double_rows, ROWS, FEW / 5, 1, "million rows"},
 };
 #define WORKS (int)(sizeof works / sizeof *works)
 
-static int same(int a, const char *b) {
-    return strcmp(works[a].what, b) == 0;
-}
+static const struct {
+    const char *what;
+    const char *const *data;
+    void (*take)(const char *);
+} all[] = {{"reading", waters, take_readings}, {"needle", waters, take_readings}, {"page", streams, take_stream}, {"row", shapes, take_rows}};
+#define ALL (int)(sizeof all / sizeof *all)
 
-static void take(const char *what, const char *data) {
-    if (strcmp(what, "page") == 0) take_stream(data);
-    else take_readings(data);
+/* Whether a work answers to a thing's data: a refused row has no doubles. */
+static int answers(int i, int a, int d) {
+    return strcmp(works[i].what, all[a].what) == 0 && (works[i].run != double_rows || all[a].data[d] != shapes[1]);
 }
 
 /* ---- check */
@@ -158,6 +207,18 @@ static int pages_differ(size_t length, size_t room) {
     size_t one, two;
     uint32_t refusal = warpsorrel_page(stream, length, page, room, &one);
     return refusal != plain_page(stream, length, other_page, room, &two) || one != two || memcmp(page, other_page, one) != 0;
+}
+
+/* Whether a row differs, put at a place where another might have ended. */
+static int row_differs(const struct row *r, size_t at) {
+    size_t (*const put[])(const struct row *, uint8_t *, size_t, size_t) = {library_row, whole_row, double_row}, past[3];
+    uint8_t out[3][2 * ROW];
+    for (int k = 0; k < (r->shape == REFUSED ? 2 : 3); k++) {
+        memset(out[k], k, sizeof out[k]);
+        past[k] = put[k](r, out[k], sizeof out[k], at);
+        if (past[k] != past[0] || memcmp(out[k] + at, out[0] + at, past[0] - at) != 0) return 1;
+    }
+    return 0;
 }
 
 static int check(void) {
@@ -184,8 +245,11 @@ static int check(void) {
         if (pages_differ(STREAM, sizeof page)) return differs("page", streams[d], 0);
         if (pages_differ(STREAM, sizeof page - 1)) return differs("page refused", streams[d], 0);
         if (pages_differ(STREAM + 1, sizeof page)) return differs("page too long", streams[d], 0);
+        take_rows(shapes[d]);
+        for (int i = 0; i < MOST; i++)
+            if (row_differs(&rows[i], (size_t)i % ROW)) return differs("row", shapes[d], i);
     }
-    printf("the library and plain C agree: %d readings, %d needles, 3 pages\n", 3 * MOST, 3 * MOST);
+    printf("the library and C agree: %d readings, %d needles, 3 pages, %d rows\n", 3 * MOST, 3 * MOST, 3 * MOST);
     return 0;
 }
 
@@ -201,16 +265,15 @@ static volatile uint64_t sink;
 
 /* Everyone has a turn in every round; the best turn counts. */
 static void time_all(int rounds) {
-    const char *const all[] = {"reading", "needle", "page"};
-    for (int a = 0; a < 3; a++) {
+    for (int a = 0; a < ALL; a++) {
         for (int d = 0; d < 3; d++) {
-            const char *data = a == 2 ? streams[d] : waters[d];
+            const char *what = all[a].what, *data = all[a].data[d];
             double best[WORKS];
-            take(all[a], data);
+            all[a].take(data);
             for (int i = 0; i < WORKS; i++) best[i] = 1e9;
             for (int round = 0; round < rounds; round++) {
                 for (int i = 0; i < WORKS; i++) {
-                    if (!same(i, all[a])) continue;
+                    if (!answers(i, a, d)) continue;
                     double start = now();
                     sink += works[i].run(works[i].many);
                     double took = now() - start;
@@ -218,9 +281,9 @@ static void time_all(int rounds) {
                 }
             }
             for (int i = 0; i < WORKS; i++) {
-                if (!same(i, all[a])) continue;
+                if (!answers(i, a, d)) continue;
                 double rate = works[i].many * works[i].answers / best[i];
-                printf("%s\t%s\t%s\t%.3f\t%s a second\n", all[a], data, works[i].who, rate / (works[i].unit[0] == 'm' ? 1e6 : 1e3), works[i].unit);
+                printf("%s\t%s\t%s\t%.3f\t%s a second\n", what, data, works[i].who, rate / (works[i].unit[0] == 'm' ? 1e6 : 1e3), works[i].unit);
             }
         }
     }
@@ -228,17 +291,18 @@ static void time_all(int rounds) {
 
 /* ---- once: the answers of the turn are printed, which is what a count is divided by */
 
-static int once(const char *what, const char *data, const char *who) {
-    for (int d = 0; d < 3; d++) {
-        if (strcmp(data, waters[d]) == 0) data = waters[d];
-        if (strcmp(data, streams[d]) == 0) data = streams[d];
-    }
-    for (int i = 0; i < WORKS; i++) {
-        if (!same(i, what) || strcmp(works[i].who, who) != 0) continue;
-        take(what, data);
-        sink = works[i].run(works[i].few);
-        printf("%.0f\n", works[i].few * works[i].answers);
-        return 0;
+static int once(int turns, const char *what, const char *data, const char *who) {
+    for (int a = 0; a < ALL; a++) {
+        for (int d = 0; d < 3; d++) {
+            if (strcmp(all[a].what, what) != 0 || strcmp(all[a].data[d], data) != 0) continue;
+            for (int i = 0; i < WORKS; i++) {
+                if (!answers(i, a, d) || strcmp(works[i].who, who) != 0) continue;
+                all[a].take(all[a].data[d]);
+                sink = works[i].run(turns * works[i].few);
+                printf("%.0f\n", works[i].few * works[i].answers);
+                return 0;
+            }
+        }
     }
     return 2;
 }
@@ -246,7 +310,8 @@ static int once(const char *what, const char *data, const char *who) {
 int main(int argc, char **argv) {
     if (argc == 2 && strcmp(argv[1], "check") == 0) return check();
     if (argc == 3 && strcmp(argv[1], "time") == 0) return time_all(atoi(argv[2])), 0;
-    if (argc == 5 && strcmp(argv[1], "once") == 0) return once(argv[2], argv[3], argv[4]);
-    fprintf(stderr, "bench check | time ROUNDS | once WHAT DATA WHO\n");
+    if (argc == 5 && strcmp(argv[1], "once") == 0) return once(1, argv[2], argv[3], argv[4]);
+    if (argc == 5 && strcmp(argv[1], "never") == 0) return once(0, argv[2], argv[3], argv[4]);
+    fprintf(stderr, "bench check | time ROUNDS | once WHAT DATA WHO | never WHAT DATA WHO\n");
     return 2;
 }

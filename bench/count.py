@@ -8,21 +8,28 @@ import subprocess
 import sys
 
 objdump, map_path, program, *emulator = sys.argv[1:]
+step = "-one-insn-per-tb" if "-one-insn-per-tb" in subprocess.run([*emulator, "-help"], capture_output=True, text=True).stdout else "-singlestep"
 
 WORK = [("reading", data, who) for data in ("uniform", "sea-like", "one-salinity") for who in ("library", "plain", "plain-jump", "plain-sqrt", "double")]
 WORK += [("needle", data, who) for data in ("uniform", "sea-like", "one-salinity") for who in ("library", "plain", "double")]
 WORK += [("page", data, who) for data in ("deep", "surface", "missing") for who in ("library", "plain")]
-FILES = {"library": "libwarpsorrel.a(", "plain": "plain.o", "plain-jump": "jump.o", "plain-sqrt": "sqrt.o", "double": "double.o"}
+WORK += [("row", data, who) for data in ("accepted", "refused", "sheet") for who in ("library", "snprintf")]
+WORK += [("row", data, "snprintf-double") for data in ("accepted", "sheet")]
+FILES = {"library": "libwarpsorrel.a(", "plain": "plain.o", "plain-jump": "jump.o", "plain-sqrt": "sqrt.o", "double": "double.o",
+         "row library": "put_row.o", "row snprintf": "libc.a(", "row snprintf-double": "libc.a("}
 
 
 def places():
-    """Where each file's code stands: start and size, by who."""
+    """Where each file's code stands: start and size. What stands together is one place: the emulator looks through all of them at every step."""
     text = re.sub(r"\n\s+(0x[0-9a-f]+\s+0x[0-9a-f]+ )", r" \1", open(map_path).read())
-    found = collections.defaultdict(list)
-    for start, size, path in re.findall(r"^ \.text\S*\s+0x([0-9a-f]+)\s+0x([0-9a-f]+) (\S+)$", text, re.M):
-        for who, name in FILES.items():
-            if (name in path if name.endswith("(") else path.split("/")[-1] == name) and int(size, 16) > 0:
-                found[who].append((int(start, 16), int(size, 16)))
+    parts = [(int(start, 16), int(size, 16), path) for start, size, path in re.findall(r"^ \.text\S*\s+0x([0-9a-f]+)\s+0x([0-9a-f]+) (\S+)$", text, re.M)]
+    found, last = collections.defaultdict(list), None
+    for start, size, path in sorted(part for part in parts if part[1] > 0):
+        name = next((name for name in FILES.values() if (name in path if name.endswith("(") else path.split("/")[-1] == name)), None)
+        if name == last:
+            start, size = found[name][-1][0], start + size - found[name].pop()[0]
+        found[name].append((start, size))
+        last = name
     return found
 
 
@@ -40,23 +47,30 @@ def classes():
     return found
 
 
+def counted(words, ranges):
+    """How often each instruction of these places is executed, and what the program says."""
+    # the emulator's log is standard error, the program's own line standard output
+    run = subprocess.Popen([*emulator, step, "-d", "nochain,exec", "-dfilter", ranges, program, *words], stdout=subprocess.PIPE, stderr=subprocess.PIPE)
+    found = collections.Counter()
+    for line in run.stderr:
+        if line.startswith(b"Trace"):
+            found[line.split(b"/", 2)[1]] += 1
+    answers = int(run.stdout.read())
+    if run.wait() != 0 or not found:
+        sys.exit("count.py: no count for %s" % " ".join(words))
+    return found, answers
+
+
 def main():
     code, kinds = places(), classes()
-    step = "-one-insn-per-tb" if "-one-insn-per-tb" in subprocess.run([*emulator, "-help"], capture_output=True, text=True).stdout else "-singlestep"
     for what, data, who in WORK:
-        ranges = ",".join("0x%x+0x%x" % place for place in code[who])
-        # the emulator's log is standard error, the program's own line standard output
-        run = subprocess.Popen([*emulator, step, "-d", "nochain,exec", "-dfilter", ranges, program, "once", what, data, who],
-                               stdout=subprocess.PIPE, stderr=subprocess.PIPE)
-        counted = collections.Counter()
-        for line in run.stderr:
-            if line.startswith(b"Trace"):
-                counted[line.split(b"/", 2)[1]] += 1
-        answers = int(run.stdout.read())
-        if run.wait() != 0 or not counted:
-            sys.exit("count.py: no count for %s %s %s" % (what, data, who))
+        file = f"row {who}" if what == "row" else who
+        ranges = ",".join("0x%x+0x%x" % place for place in code[FILES[file]])
+        found, answers = counted(["once", what, data, who], ranges)
+        if FILES[file] == "libc.a(":  # which also starts the program and prints its line
+            found.subtract(counted(["never", what, data, who], ranges)[0])
         sums = collections.Counter({"instructions": 0, "multiplications": 0, "divisions": 0, "roots": 0, "conditional jumps": 0})
-        for place, times in counted.items():
+        for place, times in found.items():
             sums["instructions"] += times
             if kinds.get(int(place, 16)):
                 sums[kinds[int(place, 16)]] += times

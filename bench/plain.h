@@ -20,4 +20,18 @@ uint32_t sqrt_density(int64_t sigma, int64_t tau, int64_t pi);
 /* double.c: the published formula in doubles; practical salinity, degrees C, bar; kg/m3. */
 double double_density(double salinity, double temperature, double pressure);
 
+/* A row of the program details, of an accepted reading or a refused one, or of the sheet. */
+struct row {
+    enum { ACCEPTED, REFUSED, SHEET } shape;
+    int number, side;
+    int whole[5];   /* sigma, tau, pi, density, bulk modulus; five times the refusal; of the sheet left, right and needle */
+    double real[5]; /* the same as doubles, where there is no refusal: with their units of 1, of the sheet as they are shown */
+};
+
+/* rows.c: the row into a buffer from a place on, and the place past it. By the library's row writer; by snprintf of whole numbers; by snprintf
+ * of doubles, which a refused row has none of. */
+size_t library_row(const struct row *r, uint8_t *out, size_t room, size_t at);
+size_t whole_row(const struct row *r, uint8_t *out, size_t room, size_t at);
+size_t double_row(const struct row *r, uint8_t *out, size_t room, size_t at);
+
 #endif
