@@ -45,7 +45,7 @@ def table(title, rows):
 
 def panel(title, one, rows, top):
     """A bar for each figure, as long as its ratio to the one's that is 1."""
-    left, width, bar = 150, 560, 11
+    left, width, bar, wide = 150, 560, 11, 22
     most = max(figure / by[one] for by in rows.values() for figure in by.values())
     unit = width / most
     parts = [f'<text x="12" y="{top + 16}" class="title">{title}</text>']
@@ -56,8 +56,10 @@ def panel(title, one, rows, top):
         for who, figure in by.items():
             ratio = figure / by[one]
             end = ratio * unit
+            # a label that the line at 1 would cross or touch stands past the line
+            label = unit if end < unit < end + 4 + wide + 4 else end
             parts.append(f'<rect x="{left}" y="{y}" width="{end:.1f}" height="{bar - 1}" fill="{WHO[who][1]}"/>')
-            parts.append(f'<text x="{left + end + 4:.1f}" y="{y + bar - 2}" class="small">{ratio:.2f}</text>')
+            parts.append(f'<text x="{left + label + 4:.1f}" y="{y + bar - 2}" class="small">{ratio:.2f}</text>')
             y += bar
         y += 8
     parts.append(f'<line x1="{left + unit:.1f}" y1="{start - 4}" x2="{left + unit:.1f}" y2="{y - 4}" stroke="#404040" stroke-dasharray="2 3"/>')
