@@ -245,6 +245,13 @@ def any_stream(rng):
     return stream
 
 
+def late_readings():
+    """Readings, left and right unlike, after many pairs of missing probes: numbers of pairs that readings alone do not reach."""
+    for before in (9, 99, 999, 3_749, 5_000, 6_143, 7_495):
+        for pair in (DEEP + SURFACE, SURFACE + DEEP):
+            yield MISSING * (2 * before) + pair
+
+
 def hard_streams():
     rng = random.Random(38)
     yield from (EXAMPLE[:n] for n in range(len(EXAMPLE) + 1))
@@ -254,6 +261,7 @@ def hard_streams():
         yield from part
     yield from (LONGEST, LONGEST[4:], LONGEST + b"\0", WIDEST_LINES, WIDEST_LINES[16:])
     yield from (SURFACE * n for n in (1, 2, 3, 7, 99, 2_499, 5_000))
+    yield from late_readings()
     yield from (any_stream(rng) for _ in range(RANDOM_STREAMS))
 
 
@@ -268,4 +276,6 @@ def covered(every):
     wanted = {(side, n) for side in ("left", "right") for n in range(9)}
     wanted |= {("needle", n) for n in (-1, 0, 1, *range(101, 109), *range(201, 209))}
     assert found == wanted, found ^ wanted
+    late = [(left, right) for stream in every if len(stream) <= 60_000 for left, right in pairs(stream)[7_400:] if not left.refusal and not right.refusal]
+    assert {(n > 0) - (n < 0) for left, right in late for _, n in [needle(left, right)]} >= {-1, 1}
     assert len(page(LONGEST)) == LONGEST_PAGE and page(LONGEST).endswith(b"\n7500 R1 R1 R101\n")

@@ -6,6 +6,7 @@ mod Shows
 mod Rows
 mod Copy
 pub mod Widths
+pub mod Values
 mod Signs
 pub mod Cases
 pub mod One

@@ -11,7 +11,7 @@ use lib.IntN.{ℤ, pos}
 use mir.Syntax.{w64}
 use mir.Val.{SFits, toZ, ofZ}
 use mir.ValLaws.{toZ-ofZ}
-use Rattle.cells.specs.Cells.{cell, cellText, cells, rowText, Put}
+use Rattle.cells.specs.Cells.{cellOf, cellText, cells, rowText, Put}
 use Rattle.cells.proofs.Stores.{sets-append}
 
 cells-long : (ks : List ℕ) (zs : List ℤ) → length ks ≡ length zs → length (cells ks zs) ≡ length ks
@@ -25,7 +25,7 @@ cells-from :
     (ks : List ℕ) (zs : List ℤ) (i : ℕ) →
     length ks ≡ length zs →
     i < length ks →
-    drop i (cells ks zs) ≡ cell (getD ks i 0) (getD zs i (pos 0)) ∷ drop (suc i) (cells ks zs)
+    drop i (cells ks zs) ≡ cellOf (getD ks i 0) (getD zs i (pos 0)) ∷ drop (suc i) (cells ks zs)
 unfolding cells
 cells-from [] zs i e h = let z : _≡_ {A = ℕ} 0 1 = omega arith in cc
 cells-from (k ∷ ks) [] i e h = let z : _≡_ {A = ℕ} 0 1 = omega arith in cc
@@ -38,14 +38,14 @@ module _ (ks : List ℕ) (zs : List ℤ) (sep : ℕ) where
   left i = rowText sep (drop i (cells ks zs))
 
   abbrev pub text : ℕ → List ℕ
-  text i = cellText (cell (getD ks i 0) (getD zs i (pos 0)))
+  text i = cellText (cellOf (getD ks i 0) (getD zs i (pos 0)))
 
   -- a value that is handed on is its bits, read again
   abbrev pub handed : ℕ → List ℕ
-  handed i = cellText (cell (getD ks i 0) (toZ w64 (ofZ w64 (getD zs i (pos 0)))))
+  handed i = cellText (cellOf (getD ks i 0) (toZ w64 (ofZ w64 (getD zs i (pos 0)))))
 
   pub handed-is : (i : ℕ) → SFits w64 (getD zs i (pos 0)) → handed i ≡ text i
-  handed-is i f = ap (λ (z : ℤ). cellText (cell (getD ks i 0) z)) (toZ-ofZ w64 (getD zs i (pos 0)) f)
+  handed-is i f = ap (λ (z : ℤ). cellText (cellOf (getD ks i 0) z)) (toZ-ofZ w64 (getD zs i (pos 0)) f)
 
   row-turn : (i : ℕ) → length ks ≡ length zs → i + 1 < length ks → left i ≡ (text i ++ (sep ∷ [])) ++ left (i + 1)
   unfolding rowText

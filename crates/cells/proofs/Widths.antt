@@ -6,7 +6,7 @@ use native.Mathlib.Omega.{arith}
 use native.Mathlib.Nat.{zero-add, suc-add}
 use lib.ListN.{length, length-append}
 use lib.IntN.{ℤ, pos, negsuc, natAbs}
-use Rattle.cells.specs.Cells.{decimal, pointed, fixedText, numberText, Cell, fixed, refusal, cellText, rowText}
+use Rattle.cells.specs.Cells.{decimal, pointed, fixedText, numberText, Cell, cellText, rowText}
 use Rattle.cells.proofs.Decimal.{decimal-width}
 use Rattle.cells.proofs.Ends.{one-longer}
 

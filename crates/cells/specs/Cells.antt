@@ -37,38 +37,30 @@ abbrev pub numberText : ℕ → ℤ → List ℕ
 numberText k (pos n) = fixedText k n
 numberText k (negsuc n) = 45 ∷ fixedText k (suc n)
 
--- a cell: a kind and a value
-pub record Cell : Type 0 where
-  pub kind : ℕ
-  pub value : ℤ
-
-abbrev pub cell : ℕ → ℤ → Cell
-cell k z = record { kind = k; value = z }
-
--- the four that there are: a number with k decimal places from its whole number, a whole number, R and a number, a word
-abbrev pub fixed : ℕ → ℤ → Cell
-fixed k z = cell k z
+-- a cell: a number with k decimal places from its whole number, R and a number, or a word
+pub data Cell : Type 0 where
+  fixed : ℕ → ℤ → Cell
+  refusal : ℕ → Cell
+  word : ℕ → Cell
 
 abbrev pub whole : ℤ → Cell
-whole z = cell 0 z
+whole z = fixed 0 z
 
-abbrev pub refusal : ℕ → Cell
-refusal n = cell 82 (pos n)
-
-abbrev pub word : ℕ → Cell
-word w = cell 119 (pos w)
-
--- what a cell shows: of kind 82, R (byte 82) and a number; of kind 119, a word; of any other, a number with so many decimal places
+-- what a cell shows; R is byte 82
 unfoldable pub cellText : Cell → List ℕ
-cellText c =
-    let n = natAbs (c .value) in
-    cond (eqb (c .kind) 82) (82 ∷ decimal n) (cond (eqb (c .kind) 119) (wordText n) (numberText (c .kind) (c .value)))
+cellText (fixed k z) = numberText k z
+cellText (refusal n) = 82 ∷ decimal n
+cellText (word w) = wordText w
+
+-- a cell as the code has it, a kind and a value: of kind 82 a refusal, of kind 119 a word, of any other a number with so many decimal places
+unfoldable pub cellOf : ℕ → ℤ → Cell
+cellOf k z = cond (eqb k 82) (refusal (natAbs z)) (cond (eqb k 119) (word (natAbs z)) (fixed k z))
 
 -- the cells of two lists, kinds and values
 unfoldable pub cells : List ℕ → List ℤ → List Cell
 cells [] values = []
 cells (k ∷ kinds) [] = []
-cells (k ∷ kinds) (z ∷ values) = cell k z ∷ cells kinds values
+cells (k ∷ kinds) (z ∷ values) = cellOf k z ∷ cells kinds values
 
 -- the cells with a separator between them, and a line feed (byte 10) at the end
 unfoldable pub rowText : ℕ → List Cell → List ℕ

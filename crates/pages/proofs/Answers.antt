@@ -1,4 +1,4 @@
--- What a page's answer says: the number, and the count of bytes. Each is the definition, read at one outcome of its check. Assumes nothing.
+-- What the answer of a page, or of a table, says: the number, and the count of bytes. Each is the definition, read at one outcome of its check. Assumes nothing.
 use Prim.Native.Nat.{ℕ}
 use mathlib.Core.Path.{_≡_, refl, ap}
 use mathlib.Core.List.{List}
@@ -10,17 +10,17 @@ use Rattle.lines.specs.declared.Check.{Check}
 use Rattle.lines.specs.declared.Check.the-variants.{Passed, Failed}
 use Rattle.lines.specs.Line.{roomCheck}
 use Rattle.pages.specs.declared.Filled.the-variants.{Page, Refused}
-use Rattle.pages.specs.Page.{filledNumber, filledCount, pageOf, pageChecked, filledOf}
+use Rattle.pages.specs.Page.{filledNumber, filledCount, pageChecked, filledWith}
 
 -- the answer, from the check's outcome
-pub filled-is : (len : ℕ) (s : List ℕ) (x : Check) → x ≡ roomCheck 118916 len → pageChecked x (length (pageOf s)) ≡ filledOf len s
-unfolding filledOf
-filled-is len s x e = ap (λ (c : Check). pageChecked c (length (pageOf s))) e
+pub filled-is : (least len : ℕ) (text : List ℕ) (x : Check) → x ≡ roomCheck least len → pageChecked x (length text) ≡ filledWith least len text
+unfolding filledWith
+filled-is least len text x e = ap (λ (c : Check). pageChecked c (length text)) e
 
--- 30 for a page with too little room
-pub filled-number : (len : ℕ) (s : List ℕ) → filledNumber (filledOf len s) ≡ cond (ltb len 118916) 30 0
-unfolding filledOf
-filled-number len s = go (ltb len 118916) (length (pageOf s))
+-- 30 for too little room
+pub filled-number : (least len : ℕ) (text : List ℕ) → filledNumber (filledWith least len text) ≡ cond (ltb len least) 30 0
+unfolding filledWith
+filled-number least len text = go (ltb len least) (length text)
   where
     go : (x : Bool) (k : ℕ) → filledNumber (pageChecked (cond x Failed Passed) k) ≡ cond x 30 0
     go true k = refl

@@ -1,5 +1,4 @@
 mod Rows
 pub mod Widths
-pub mod Answers
 mod Example
 pub mod One

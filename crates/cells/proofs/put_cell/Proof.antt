@@ -5,7 +5,7 @@ use mathlib.Core.List.{List, _++_, [], _∷_}
 use lib.IntN.{ℤ}
 use mir.Syntax.{w64}
 use mir.Val.{toZ, ofZ}
-use Rattle.cells.specs.Cells.{decimal, wordText, numberText, cell, cellText}
+use Rattle.cells.specs.Cells.{decimal, wordText, numberText, cellOf, cellText}
 use Rattle.cells.proofs.Ends.{ended}
 use Rattle.cells.proofs.Shows.{refusal-text, word-text, number-text}
 use Rattle.cells.proofs.Stores.{put-same, room-same}
@@ -15,7 +15,7 @@ use Rattle.cells.proofs.put_cell.Tie as tie
 
 -- the text of each kind is the one that is asked for
 abbrev asked : tie.Start → List ℕ
-asked s = cellText (cell (s .args .kind) (s .args .value)) ++ ((s .args .end) ∷ [])
+asked s = cellText (cellOf (s .args .kind) (s .args .value)) ++ ((s .args .end) ∷ [])
 
 refused : (c : tie.After-unsigned) → let s = c .before .before .before in 82 ∷ (decimal (c .unsigned .result) ++ ((s .args .end) ∷ [])) ≡ asked s
 refused c =
