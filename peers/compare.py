@@ -25,7 +25,16 @@ def waters():
         "sea: 33 to 36, -2 to 30 °C, to 100 bar": box(10000, (33000, 36000), (-2000, 30000), (0, 10000)),
         "brackish: 0 to 10, 0 to 25 °C, to 10 bar": box(10000, (0, 10000), (0, 25000), (0, 1000)),
         "surface: 0 to 42, -2 to 40 °C": box(10000, (0, 42000), (-2000, 40000), (0, 0)),
+        "a hatchery's: 10 to 33, 0 to 25 °C, to 20 bar": box(10000, (10000, 33000), (0, 25000), (0, 2000)),
+        "0 to 35, 0 to 30 °C, to 100 bar": box(60000, (0, 35000), (0, 30000), (0, 10000)),
     }
+
+
+def floats_sent():
+    """Readings of a hatchery's waters as probes send them: 32-bit floats that are not on the grid."""
+    draw = random.Random(1981)
+    reading = lambda: [draw.uniform(10, 33), draw.uniform(0, 25), draw.uniform(0, 20)]
+    return [struct.unpack("<3f", struct.pack("<3f", *reading())) for _ in range(20000)]
 
 
 def panel(grid):
@@ -35,6 +44,15 @@ def panel(grid):
     refusals, densities, _ = zip(*struct.iter_unpack("<3I", answered))
     assert len(densities) == len(grid) and not any(refusals)
     return numpy.array(densities) / 1000
+
+
+def panel_floats(readings):
+    """The same of floats as they were sent."""
+    asked = b"".join(b"c" + struct.pack("<I3f", 1, *reading) for reading in readings)
+    answered = subprocess.run(DRIVER, input=asked, stdout=subprocess.PIPE, check=True).stdout
+    answers = list(struct.iter_unpack("<6q", answered))
+    assert len(answers) == len(readings) and not any(answer[0] for answer in answers)
+    return numpy.array([answer[4] for answer in answers]) / 1000
 
 
 def panel_report(salinity, temperature, pressure):
@@ -98,18 +116,33 @@ def main():
             if density is ferret:
                 worst = max(worst, abs(off[far]))
 
-    # the five next heavier waters of each of the sea's, by the panel; only needles of 2 or more say which is heavier
-    name, grid = list(sets.items())[1]
-    shown = numpy.round(1000 * panel(grid)).astype(int)
-    order = numpy.argsort(shown, kind="stable")
-    s, t, bar = (numpy.array(column)[order] for column in zip(*grid))
-    needles = [(k, shown[order][k:] - shown[order][:-k]) for k in range(1, 6)]
-    print("\n| peer | pairs of near sea waters with a needle of 2 or more | peer names the other water | at a needle of up to |")
-    print("|---|---:|---:|---:|")
-    for peer, density in PEERS.items():
-        heavy = density(s / 1000, t / 1000, bar / 10)
-        other = numpy.concatenate([needle[(needle >= 2) & (heavy[k:] <= heavy[:-k])] for k, needle in needles])
-        print("| %s | %d | %d | %s |" % (peer, sum((needle >= 2).sum() for _, needle in needles), len(other), max(other) if len(other) else ""))
+    # the five next heavier waters of each, by the panel; only needles of 2 or more say which is heavier. And of all pairs the greatest needle
+    # at which a peer names the other water: from the first water, by the panel, that the peer has at least as heavy
+    print("\n| waters | peer | near pairs with a needle of 2 or more | peer names the other water | of all pairs, at a needle of up to |")
+    print("|---|---|---:|---:|---:|")
+
+    def heavier(name, shown, s, t, decibars, peers):
+        shown = numpy.round(1000 * shown).astype(int)
+        order = numpy.argsort(shown, kind="stable")
+        s, t, decibars = (numpy.asarray(column)[order] for column in (s, t, decibars))
+        needles = [(k, shown[order][k:] - shown[order][:-k]) for k in range(1, 6)]
+        for peer in peers:
+            heavy = PEERS[peer](s, t, decibars)
+            other = numpy.concatenate([needle[(needle >= 2) & (heavy[k:] <= heavy[:-k])] for k, needle in needles])
+            first = numpy.searchsorted(numpy.maximum.accumulate(heavy), heavy)
+            most = (shown[order] - shown[order][first]).max()
+            print("| %s | %s | %d | %d | %s |" % (name, peer, sum((needle >= 2).sum() for _, needle in needles), len(other), most if most >= 2 else ""))
+
+    for name in (list(sets)[1], list(sets)[4], list(sets)[5]):
+        s, t, bar = (numpy.array(column) for column in zip(*sets[name]))
+        heavier(name, panel(sets[name]), s / 1000, t / 1000, bar / 10, PEERS)
+
+    # what the rounding of the input adds: the same waters as floats, the peer at the floats themselves
+    s, t, bar = (numpy.array(column) for column in zip(*floats_sent()))
+    shown = panel_floats(floats_sent())
+    first = list(PEERS)[0]
+    heavier("a hatchery's, as sent", shown, s, t, 10 * bar, [first])
+    print("\nA hatchery's waters as sent, %s at the floats: %.6f kg/m3 at most" % (first, abs(PEERS[first](s, t, 10 * bar) - shown).max()))
 
     print("\n| asked | panel | Ferret | TEOS-10, 75 terms | TEOS-10, Gibbs function |")
     print("|---|---|---:|---:|---:|")
