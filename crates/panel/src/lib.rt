@@ -7,8 +7,6 @@ use channels::Needle;
 use readings::Checked;
 use readings::Entry;
 use readings::Point;
-use readings::Report;
-use refusals::Refusal;
 use waters::Water;
 
 // The water at a point of the grid.
@@ -22,28 +20,15 @@ fn watered(at: Point) -> Channel
     }
 }
 
-// The answer of three floats. Two places call it, so that it stays out of line and a missing probe pays for none of it.
-fn measured(salinity: f32, temperature: f32, pressure: f32) -> Channel
-    ensures { λ r. ⌜ r ≡ channelOf (Entry.Reading (Report.Deep salinity temperature pressure)) ⌝ }
-{
-    match readings::check(Report::Deep(salinity, temperature, pressure)) {
-        Checked::Refused(why) => Channel::Refused(why),
-        Checked::Taken(at) => watered(at),
-    }
-}
-
 // The answer of one channel.
 pub fn answer(entry: Entry) -> Channel
     ensures { λ r. ⌜ r ≡ channelOf entry ⌝ }
 {
     match entry {
         Entry::Refused(why) => Channel::Refused(why.refusal()),
-        Entry::Reading(report) => match report {
-            Report::Deep(salinity, temperature, pressure) => {
-                measured(salinity, temperature, pressure)
-            }
-            Report::Surface(salinity, temperature) => measured(salinity, temperature, 0.0),
-            Report::Missing => Channel::Refused(Refusal::Missing),
+        Entry::Reading(report) => match readings::check(report) {
+            Checked::Refused(why) => Channel::Refused(why),
+            Checked::Taken(at) => watered(at),
         },
     }
 }
