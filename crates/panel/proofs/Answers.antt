@@ -2,6 +2,7 @@
 -- a listed reason. A point that passed its checks lies on the grid table, so that its water is known. Assumes nothing.
 use Prim.Native.Nat.{ℕ}
 use mathlib.Core.Path.{_≡_, refl, sym, _∙_, subst, ap}
+use mathlib.Core.Option.{some}
 use native.Mathlib.Omega.{arith}
 use Rattle.refusals.specs.declared.Refusal.{Refusal}
 use Rattle.refusals.specs.declared.Unread.{Unread}
@@ -9,7 +10,6 @@ use Rattle.refusals.specs.Number.{refusalOf}
 use Rattle.readings.specs.declared.Point.{Point}
 use Rattle.readings.specs.declared.Report.{Report}
 use Rattle.readings.specs.declared.Reading.{Reading}
-use Rattle.readings.specs.declared.Given.{Given}
 use Rattle.readings.specs.declared.Checked.{Checked}
 use Rattle.readings.specs.Check.{givenOf, checkedOf}
 use Rattle.readings.proofs.Reasons.{OnGrid, Gridded, Reason}
@@ -57,7 +57,7 @@ case-of (Entry.Refused u) = no-record u
 -- ---- an accepted reading's point has the grid numbers of its floats
 pub accepted-gridded :
     (report : Report) (r : Reading) (p : Point) (d k : ℕ) →
-    givenOf report ≡ Given.Reading r →
+    givenOf report ≡ some r →
     channelOf (Entry.Reading report) ≡ Channel.Accepted p d k →
     Gridded r p
 accepted-gridded report r p d k g e = go (subst (Case (Entry.Reading report)) e (case-of (Entry.Reading report)))

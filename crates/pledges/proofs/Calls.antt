@@ -3,6 +3,7 @@
 -- state after the call. A dropped or weakened clause breaks these laws. Assumes nothing.
 use Prim.Native.Nat.{ℕ, _≤_, _<_}
 use mathlib.Core.Path.{_≡_, sym, ap, ap₂, _∙_}
+use mathlib.Core.Option.{some}
 use contract.Lifetimes
 use lib.IntN.{ℤ, pos}
 use lib.Signed.{_≤ℤ_}
@@ -11,7 +12,6 @@ use Rattle.whole.specs.Fraction.{Frac, over, _≤F_, _⊖_}
 use Rattle.floats.specs.Grid.{AtMost, Same}
 use Rattle.readings.specs.declared.Report.{Report}
 use Rattle.readings.specs.declared.Reading.{Reading}
-use Rattle.readings.specs.declared.Given.{Given}
 use Rattle.readings.specs.declared.Point.{Point}
 use Rattle.readings.specs.declared.Entry.{Entry}
 use Rattle.readings.specs.Check.{givenOf}
@@ -37,7 +37,7 @@ module _ (κs : Lifetimes.Lfts 0) (a : _) (r : _) (s : _) (told : answer.Learnt 
   stiffer-than-pressure = pledge.stiffer-than-pressure (a .0) p d k (is ∙ told)
 
   -- what it shows, of the floats that it was given
-  pub shows : (report : Report) (x : Reading) → a .0 ≡ Entry.Reading report → givenOf report ≡ Given.Reading x → Shows x d
+  pub shows : (report : Report) (x : Reading) → a .0 ≡ Entry.Reading report → givenOf report ≡ some x → Shows x d
   shows report x e g = record { report = report; reading-is = g; point = p; bulk = k; channel-is = is ∙ told ∙ ap channelOf e }
 
 -- ---- two calls of `answer`, and one of `compare` on what they answered
@@ -109,7 +109,7 @@ module _
     (κs κs′ : Lifetimes.Lfts 0) (a b : _) (l r : _) (s t : _) (first : answer.Learnt κs a l s) (second : answer.Learnt κs′ b r t)
     (p q : Point) (d k d′ k′ : ℕ) (l-is : Channel.Accepted p d k ≡ l) (r-is : Channel.Accepted q d′ k′ ≡ r)
     (f g : Report) (x y : Reading) (a-is : a .0 ≡ Entry.Reading f) (b-is : b .0 ≡ Entry.Reading g)
-    (x-is : givenOf f ≡ Given.Reading x) (y-is : givenOf g ≡ Given.Reading y) where
+    (x-is : givenOf f ≡ some x) (y-is : givenOf g ≡ some y) where
   -- 3. at the same temperature and pressure saltier water never shows lighter
   pub saltier : Same (x .temperature) (y .temperature) → Same (x .pressure) (y .pressure) → AtMost (x .salinity) (y .salinity) → d ≤ d′
   saltier = pledge.saltier x y d d′ (shows κs a l s first p d k l-is f x a-is x-is) (shows κs′ b r t second q d′ k′ r-is g y b-is y-is)

@@ -2,6 +2,7 @@
 -- or `panel::paired` gives. Proved in proofs/Pledges, and in proofs/Calls once more from the contracts of these calls.
 use Prim.Native.Nat.{ℕ, _≤_, _<_}
 use mathlib.Core.Path.{_≡_}
+use mathlib.Core.Option.{some}
 use lib.IntN.{ℤ, pos}
 use lib.Signed.{_≤ℤ_}
 use Rattle.whole.specs.Arith.{neg, plus}
@@ -9,7 +10,6 @@ use Rattle.whole.specs.Fraction.{Frac, over, _≤F_, _⊖_}
 use Rattle.floats.specs.Grid.{AtMost, Same}
 use Rattle.readings.specs.declared.Report.{Report}
 use Rattle.readings.specs.declared.Reading.{Reading}
-use Rattle.readings.specs.declared.Given.{Given}
 use Rattle.readings.specs.declared.Point.{Point}
 use Rattle.readings.specs.Check.{givenOf}
 use Rattle.readings.specs.declared.Entry.{Entry}
@@ -34,7 +34,7 @@ AnswerStiffer = (e : Entry) (p : Point) (d k : ℕ) → Channel.Accepted p d k �
 -- the panel shows the density d for a reading, whichever kind of report it came in
 pub record Shows (x : Reading) (d : ℕ) : Type 0 where
   pub report : Report
-  pub reading-is : givenOf report ≡ Given.Reading x
+  pub reading-is : givenOf report ≡ some x
   pub point : Point
   pub bulk : ℕ
   pub channel-is : Channel.Accepted point d bulk ≡ channelOf (Entry.Reading report)

@@ -1,6 +1,7 @@
 -- A reading that is taken is on the grid, and one is refused exactly if it has a listed reason: by following the checks in
 -- their order, and since a float inside its range has its grid number inside. Assumes nothing.
 use mathlib.Core.Path.{_≡_, refl, sym, _∙_, subst, ap₂}
+use mathlib.Core.Option.{some}
 use mathlib.Core.Bool.{Bool, true, false, cond}
 use lib.Dec.{T}
 use lib.Signed.{_≤ℤ_}
@@ -14,7 +15,6 @@ use Rattle.readings.proofs.Reasons.{OnGrid, Gridded, Usable, Reason, mi
 use Rattle.readings.specs.declared.Report.{Report}
 use Rattle.readings.specs.declared.Reading.{Reading}
 use Rattle.readings.specs.declared.Point.{Point}
-use Rattle.readings.specs.declared.Given.{Given}
 use Rattle.readings.specs.declared.Finite.{Finite}
 use Rattle.readings.specs.declared.Checked.{Checked}
 
@@ -36,8 +36,8 @@ by-places report r w true true true s t p =
     let π = within pressures (r .pressure) p in
     taken r w (record { sigma-is = refl; tau-is = refl; pi-is = refl }) (record { sigma-low = σ .0; sigma-high = σ .1; tau-low = τ .0; tau-high = τ .1; pi-low = π .0; pi-high = π .1 })
 
-with-reading : (report : Report) (r : Reading) → givenOf report ≡ Given.Reading r → (f : Finite) → allFinite report ≡ f
-    → Answered report (inOrder (Given.Reading r) f)
+with-reading : (report : Report) (r : Reading) → givenOf report ≡ some r → (f : Finite) → allFinite report ≡ f
+    → Answered report (inOrder (some r) f)
 unfolding placedOf placeOf
 with-reading report r g Finite.No e = refused (not-finite r g e)
 with-reading report r g Finite.Yes e =
@@ -57,11 +57,11 @@ taken-on-grid report p e = go (subst (Answered report) e (answered report))
     go (taken r w n g) = g
 
 -- its numbers are those of its reading's floats
-pub taken-gridded : (report : Report) (r : Reading) (p : Point) → givenOf report ≡ Given.Reading r → checkedOf report ≡ Checked.Taken p → Gridded r p
+pub taken-gridded : (report : Report) (r : Reading) (p : Point) → givenOf report ≡ some r → checkedOf report ≡ Checked.Taken p → Gridded r p
 taken-gridded report r p h e = go (subst (Answered report) e (answered report))
   where
-    one : (q : Reading) → givenOf report ≡ Given.Reading q → q ≡ r
-    one q g = let z : Given.Reading q ≡ Given.Reading r = sym g ∙ h in cc
+    one : (q : Reading) → givenOf report ≡ some q → q ≡ r
+    one q g = let z : some q ≡ some r = sym g ∙ h in cc
 
     go : Answered report (Checked.Taken p) → Gridded r p
     go (taken q w n g) = subst (λ (x : Reading). Gridded x p) (one q (w .given)) n

@@ -1,5 +1,6 @@
 -- What an answer says of its report, in the laws' words: a point on SPEC's grid, or the refusal's reason. Assumes nothing.
 use mathlib.Core.Path.{_≡_}
+use mathlib.Core.Option.{some}
 use mathlib.Core.Bool.{true, false}
 use lib.IntN.{pos}
 use lib.Signed.{_≤ℤ_}
@@ -10,7 +11,6 @@ use Rattle.readings.specs.Check.{salinities, temperatures, pressures, gi
 use Rattle.readings.specs.declared.Report.{Report}
 use Rattle.readings.specs.declared.Reading.{Reading}
 use Rattle.readings.specs.declared.Point.{Point}
-use Rattle.readings.specs.declared.Given.{Given}
 use Rattle.readings.specs.declared.Finite.{Finite}
 use Rattle.readings.specs.declared.Checked.{Checked}
 
@@ -31,13 +31,13 @@ pub record Gridded (r : Reading) (p : Point) : Type 0 where
 
 -- the report has the reading r, and its floats are finite
 pub record Usable (report : Report) (r : Reading) : Type 0 where
-  pub given : givenOf report ≡ Given.Reading r
+  pub given : givenOf report ≡ some r
   pub finite : allFinite report ≡ Finite.Yes
 
 -- each refusal's reason: its own check fails, and the checks before it do not
 pub data Reason : Report → Refusal → Type 0 where
   missing : Reason Report.Missing Refusal.Missing
-  not-finite : {report : Report} (r : Reading) → givenOf report ≡ Given.Reading r → allFinite report ≡ Finite.No → Reason report Refusal.NotFinite
+  not-finite : {report : Report} (r : Reading) → givenOf report ≡ some r → allFinite report ≡ Finite.No → Reason report Refusal.NotFinite
   salinity : {report : Report} (r : Reading) → Usable report r → inside salinities (r .salinity) ≡ false → Reason report Refusal.Salinity
   temperature : {report : Report} (r : Reading) → Usable report r → inside salinities (r .salinity) ≡ true
       → inside temperatures (r .temperature) ≡ false → Reason report Refusal.Temperature

@@ -1,4 +1,5 @@
 -- SPEC, "A reading" and the rows 1 to 5 of "Refusal numbers and their order": what becomes of a report.
+use mathlib.Core.Option.{Option, some, none}
 use mathlib.Core.Bool.{Bool, true, false, _&&_}
 use lib.IntN.{pos}
 use lib.Ieee.{Float, fin}
@@ -8,7 +9,6 @@ use Rattle.floats.specs.Grid.{Range, range, finite, placeOf}
 use Rattle.floats.specs.declared.Place.{Place}
 use Rattle.readings.specs.declared.Report.{Report}
 use Rattle.readings.specs.declared.Reading.{Reading}
-use Rattle.readings.specs.declared.Given.{Given}
 use Rattle.readings.specs.declared.Finite.{Finite}
 use Rattle.readings.specs.declared.Checked.{Checked}
 
@@ -31,10 +31,10 @@ abbrev pub surfaceOf : Float → Float → Reading
 surfaceOf s t = deepOf s t (fin false 0 (pos 0))
 
 -- 1: the reading that a report has, unless it is missing
-abbrev pub givenOf : Report → Given
-givenOf (Report.Deep s t p) = Given.Reading (deepOf s t p)
-givenOf (Report.Surface s t) = Given.Reading (surfaceOf s t)
-givenOf Report.Missing = Given.Nothing
+abbrev pub givenOf : Report → Option Reading
+givenOf (Report.Deep s t p) = some (deepOf s t p)
+givenOf (Report.Surface s t) = some (surfaceOf s t)
+givenOf Report.Missing = none
 
 abbrev pub yesNo : Bool → Finite
 yesNo true = Finite.Yes
@@ -63,10 +63,10 @@ placedOf r =
     firstOutside (placeOf salinities (r .salinity)) (placeOf temperatures (r .temperature)) (placeOf pressures (r .pressure))
 
 -- 1, then 2, then 3, 4, 5
-abbrev pub inOrder : Given → Finite → Checked
-inOrder Given.Nothing f = Checked.Refused Refusal.Missing
-inOrder (Given.Reading r) Finite.No = Checked.Refused Refusal.NotFinite
-inOrder (Given.Reading r) Finite.Yes = placedOf r
+abbrev pub inOrder : Option Reading → Finite → Checked
+inOrder none f = Checked.Refused Refusal.Missing
+inOrder (some r) Finite.No = Checked.Refused Refusal.NotFinite
+inOrder (some r) Finite.Yes = placedOf r
 
 -- what becomes of a report: the first refusal that applies, or the grid numbers
 unfoldable pub checkedOf : Report → Checked

@@ -1,6 +1,7 @@
 // From a probe's report to the grid numbers of its reading, or to the first refusal that applies.
 ghost use mathlib.Core.Path.{_≡_};
-ghost use Rattle.readings.specs.Check.{surfaceOf, finiteOf, givenOf, placedOf, checkedOf};
+ghost use mathlib.Core.Option.{some};
+ghost use Rattle.readings.specs.Check.{surfaceOf, finiteOf, placedOf, inOrder, checkedOf};
 use floats::Place;
 use floats::grid;
 use refusals::Refusal;
@@ -38,35 +39,10 @@ pub enum Checked {
     Refused(Refusal),
 }
 
-// The answer of check 1.
-pub enum Given {
-    Reading(Reading),
-    Nothing,
-}
-
 // The answer of check 2.
 pub enum Finite {
     Yes,
     No,
-}
-
-impl Report {
-    pub fn reading(self) -> Given
-        ensures { λ r. ⌜ r ≡ givenOf self ⌝ }
-    {
-        match self {
-            Report::Deep(salinity, temperature, pressure) => Given::Reading(Reading {
-                salinity,
-                temperature,
-                pressure,
-            }),
-            Report::Surface(salinity, temperature) => {
-                let reading = Reading::surface(salinity, temperature);
-                Given::Reading(reading)
-            }
-            Report::Missing => Given::Nothing,
-        }
-    }
 }
 
 impl Reading {
@@ -144,17 +120,33 @@ impl Reading {
         };
         Checked::Taken(Point { sigma, tau, pi })
     }
+
+    // Checks 2 to 5.
+    fn checked(self) -> Checked
+        ensures { λ r. ⌜ r ≡ inOrder (some self) (finiteOf self) ⌝ }
+    {
+        let Finite::Yes = self.finite() else {
+            return Checked::Refused(Refusal::NotFinite);
+        };
+        self.placed()
+    }
 }
 
-// Checks 1 to 5 in SPEC's order: the first that applies is the answer.
+// Checks 1 to 5 in SPEC's order: the first that applies is the answer. Both kinds of reading call what follows check 1, which keeps it out of line.
 pub fn check(report: Report) -> Checked
     ensures { λ r. ⌜ r ≡ checkedOf report ⌝ }
 {
-    let Given::Reading(reading) = report.reading() else {
-        return Checked::Refused(Refusal::Missing);
+    let Report::Surface(salinity, temperature) = report else {
+        let Report::Deep(salinity, temperature, pressure) = report else {
+            return Checked::Refused(Refusal::Missing);
+        };
+        let reading = Reading {
+            salinity,
+            temperature,
+            pressure,
+        };
+        return reading.checked();
     };
-    let Finite::Yes = reading.finite() else {
-        return Checked::Refused(Refusal::NotFinite);
-    };
-    reading.placed()
+    let reading = Reading::surface(salinity, temperature);
+    reading.checked()
 }

@@ -1,89 +1,73 @@
--- `check` meets its contract: testing the reading's three floats answers as testing the report's own, since a surface
--- reading's third is 0. Assumes nothing.
+-- `check` meets its contract: what remains after a surface and a deep report is a missing one, and a surface reading's third float, 0, is finite.
+-- Assumes nothing.
 use borrow.Author.Needs.{needs}
-use mathlib.Core.Path.{_≡_, refl, sym, _∙_, ap}
-use mathlib.Core.Bool.{Bool, true, false, _&&_}
-use Prim.Native.Nat.{ℕ}
+use mathlib.Core.Path.{_≡_, refl, sym, ap, _∙_}
+use mathlib.Core.Bool.{and-true}
+use mathlib.Core.Option.{some}
+use mathlib.Core.Logic.{inl, inr}
+use mathlib.Core.List.{[], _∷_}
 use native.Mathlib.Omega.{arith}
-use Rattle.floats.specs.Grid.{finite}
-use Rattle.readings.specs.Check.{yesNo, allFinite, finiteOf, givenOf, inOrder, checkedOf}
+use types.Run.{OneOf}
+use denote.Enum.Declared.{tagOf}
+use lib.Ieee.{Float}
+use Rattle.refusals.specs.declared.Refusal.{Refusal}
+use Rattle.readings.specs.Check.{surfaceOf, finiteOf, inOrder, checkedOf}
 use Rattle.readings.specs.declared.Report.{Report}
 use Rattle.readings.specs.declared.Reading.{Reading}
-use Rattle.readings.specs.declared.Given.{Given}
-use Rattle.readings.specs.declared.Finite.{Finite}
+use Rattle.readings.specs.declared.Checked.{Checked}
+use Rattle.readings.proofs.Report as variants
 use Rattle.readings.proofs.check.Statement.{statement}
 use Rattle.readings.proofs.check.Tie as tie
 
-given-one : {a b : Reading} → Given.Reading a ≡ Given.Reading b → a ≡ b
-given-one e = cc
-
-own-floats : (report : Report) (r : Reading) → givenOf report ≡ Given.Reading r → finiteOf r ≡ allFinite report
-own-floats (Report.Deep s t p) r e = sym (ap finiteOf (given-one e))
-own-floats (Report.Surface s t) r e = sym (ap finiteOf (given-one e)) ∙ ap yesNo (two (finite s) (finite t))
-  where
-    two : (a b : Bool) → (a && (b && true)) ≡ (a && b)
-    two true true = refl
-    two true false = refl
-    two false b = refl
-own-floats Report.Missing r e = absurd (never e)
-  where
-    never : Given.Nothing ≡ Given.Reading r → ⊥
-    never e = let z : _≡_ {A = ℕ} 0 1 = cc in omega arith
-
-by-answers : (report : Report) {g : Given} {f : Finite} → givenOf report ≡ g → allFinite report ≡ f → inOrder g f ≡ checkedOf report
+-- the variants by their numbers, from 0: neither the second nor the first
+missing : (r : Report) → OneOf (0 ∷ 2 ∷ []) (tagOf variants.the-type r) → OneOf (1 ∷ 2 ∷ []) (tagOf variants.the-type r)
+    → Checked.Refused Refusal.Missing ≡ checkedOf r
 unfolding checkedOf
-by-answers report a b = cc
+missing (Report.Deep s t p) a (inl e) = absurd (omega (arith, e))
+missing (Report.Deep s t p) a (inr e) = absurd (omega (arith, e))
+missing (Report.Surface s t) (inl e) b = absurd (omega (arith, e))
+missing (Report.Surface s t) (inr e) b = absurd (omega (arith, e))
+missing Report.Missing a b = refl
 
-reading-requires : tie.Need-reading-requires
-reading-requires c κs = search needs
+at-surface : (s t : Float) {r : Reading} → r ≡ surfaceOf s t → inOrder (some r) (finiteOf r) ≡ checkedOf (Report.Surface s t)
+unfolding checkedOf
+at-surface s t e = rw (e, and-true)
 
-enum-known-reading : tie.Need-enum-known-reading
-enum-known-reading c = search needs
+enum-known-report : tie.Need-enum-known-report
+enum-known-report c = search needs
 
-enum-told : tie.Need-enum-told
-enum-told c = search needs
+enum-known-report-2 : tie.Need-enum-known-report-2
+enum-known-report-2 c = search needs
 
 returns : tie.Need-returns
-returns c = by-answers (c .before .before .before .args .report) (sym (c .before .before .reading .ensures) ∙ c .enum-told .given .1) refl
+returns c = missing (c .before .before .args .report) (c .before .match .keys2) (c .match2 .keys2)
 
-finite-requires : tie.Need-finite-requires
-finite-requires c κs = search needs
-
-enum-told-2 : tie.Need-enum-told-2
-enum-told-2 c = search needs
-
-enum-told-3 : tie.Need-enum-told-3
-enum-told-3 c = search needs
-
--- with a reading given, and the answer f to whether it is finite
-with-reading : (c : tie.After-finite) {f : Finite} → c .finite .result ≡ f
-    → inOrder (Given.Reading (c .before .before .reading2 .given .0 .0)) f ≡ checkedOf (c .before .before .before .before .before .args .report)
-with-reading c e =
-    let k = c .before .before in
-    let report = k .before .before .before .args .report in
-    let given = sym (k .before .before .reading .ensures) ∙ k .reading2 .given .1 in
-    by-answers report given (sym (own-floats report (k .reading2 .given .0 .0) given) ∙ sym (c .finite .ensures) ∙ e)
+checked-requires : tie.Need-checked-requires
+checked-requires c κs = search needs
 
 returns-2 : tie.Need-returns-2
-returns-2 c = with-reading (c .before .before) (c .enum-told3 .given .1)
+unfolding checkedOf
+returns-2 c = c .checked .ensures ∙ sym (ap checkedOf (c .before .before .report2 .given .1))
 
-placed-requires : tie.Need-placed-requires
-placed-requires c κs = search needs
+surface-requires : tie.Need-surface-requires
+surface-requires c κs = search needs
+
+checked-requires-2 : tie.Need-checked-requires-2
+checked-requires-2 c κs = search needs
 
 returns-3 : tie.Need-returns-3
-returns-3 c = c .placed .ensures ∙ with-reading (c .before .before .before) (c .before .enum-told2 .given .1)
+returns-3 c =
+    c .checked2 .ensures ∙ at-surface _ _ (c .before .surface .ensures) ∙ sym (ap checkedOf (c .before .before .before .report .given .1))
 
 pub check-spec : {M : Type 1} → statement M
 check-spec =
     tie.close
     (tie.spec
-    reading-requires
-    enum-known-reading
-    enum-told
+    enum-known-report
+    enum-known-report-2
     returns
-    finite-requires
-    enum-told-2
-    enum-told-3
+    checked-requires
     returns-2
-    placed-requires
+    surface-requires
+    checked-requires-2
     returns-3)
