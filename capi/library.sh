@@ -1,8 +1,8 @@
 # Sourced after scripts/kit.sh: the compiled panel, and packages of Debian's for x86-64 where this machine is of another kind.
 
-# archive: the static library; built where it is missing or older than the code. WARPSORREL names another one to use instead.
+# archive: the static library; proved and built where it is missing or older than the code or its proofs. WARPSORREL names another one to use instead.
 archive=${WARPSORREL:-target/staticlib/libwarpsorrel.a}
-if [ -z "${WARPSORREL:-}" ] && { [ ! -e "$archive" ] || [ -n "$(find crates -path '*/src/*' -newer "$archive" -print -quit)" ]; }; then
+if [ -z "${WARPSORREL:-}" ] && { [ ! -e "$archive" ] || [ -n "$(find crates \( -name '*.rt' -o -name '*.antt' \) -newer "$archive" -print -quit)" ]; }; then
     rt staticlib warpsorrel >target/staticlib.log 2>&1 || { tail -n 20 target/staticlib.log >&2; exit 1; }
 fi
 

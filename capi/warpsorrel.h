@@ -1,16 +1,21 @@
-/* The panel's C ABI: link target/staticlib/libwarpsorrel.a, which `rt staticlib warpsorrel` writes.
+/* The panel's C ABI: link libwarpsorrel.a or libwarpsorrel.so, which capi/build leaves in target/capi. Their code is x86-64's, for the calling
+ * convention that Linux has there (System V).
  *
  * Every function answers every number, every float pattern and every stream of bytes: bad input is refused by number, and no value has to be
- * checked first. What C cannot say in a declaration is asked of the caller all the same:
- *   - a pointer points to as many bytes or numbers as its declaration or its length says; where a length is 0, it may be NULL;
- *   - what a call is lent to write (out, count) overlaps nothing else that it is given;
- *   - nobody else writes what a call reads or writes while it runs.
- * The functions keep nothing between calls and allocate nothing, so that any number of threads may call them at once.
+ * checked first. Every function is reentrant, allocates nothing and keeps nothing between calls, and calls nothing outside the library. So any
+ * number of threads may call them at once.
  *
- * No floating-point mode changes an answer: not the rounding mode, nor flush-to-zero or denormals-are-zero (as a program linked with
- * -ffast-math sets them). Floats are compared with NaN and infinity and otherwise taken apart by their bits. The one exception is
- * warpsorrel_recorder, which divides once, in the rounding mode that it finds; what it promises is to nearest, the mode that a program
- * starts with. Floating-point exceptions are expected to be masked, as a program starts. */
+ * What C cannot say in a declaration is asked of the caller all the same:
+ *   - a pointer points to as many bytes or numbers as its declaration or its length says; where a length is 0, it may be NULL;
+ *   - what a call is lent to write (out, count) overlaps nothing else that it is given. Above all stream and out must not overlap: a page
+ *     written over its own stream comes out wrong, and nothing says so;
+ *   - nobody else writes what a call reads, or reads or writes what it writes, while it runs.
+ *
+ * Of the floating-point environment two things are asked: exceptions are masked, as a program starts; and warpsorrel_recorder, which divides
+ * once, in the rounding mode that it finds, keeps its promise to nearest, the mode that a program starts with. No mode changes an answer of any
+ * other function: not the rounding mode, nor flush-to-zero or denormals-are-zero (as a program linked with -ffast-math sets them), because floats
+ * are compared with NaN and infinity and otherwise taken apart by their bits. A call leaves the modes as it finds them; it may set the flags
+ * that record exceptions. */
 #ifndef WARPSORREL_H
 #define WARPSORREL_H
 
@@ -20,6 +25,30 @@
 #ifdef __cplusplus
 extern "C" {
 #endif
+
+/* ---- The version of what is declared here. It goes up when a call that was there changes what it takes or what it answers; new calls alone do
+ * not raise it. A program that loads the library at run time asks once, at its start, and goes on only with the number that it was written for. */
+#define WARPSORREL_VERSION 1u
+
+/* The version of the library: WARPSORREL_VERSION, if the two belong together. */
+uint32_t warpsorrel_version(void);
+
+/* ---- Refusals; 0 is none. Of several the first of 6, 7, 8, 1, 2, 3, 4, 5 is answered. 30 and 31 are for a line or a page that is not written,
+ * and there 30 comes first. */
+#define WARPSORREL_REFUSED_MISSING 1u      /* missing */
+#define WARPSORREL_REFUSED_NOT_FINITE 2u   /* a NaN or an infinity */
+#define WARPSORREL_REFUSED_SALINITY 3u     /* the salinity is not from 0 to 42 */
+#define WARPSORREL_REFUSED_TEMPERATURE 4u  /* the temperature is not from -2 to 40 degrees C */
+#define WARPSORREL_REFUSED_PRESSURE 5u     /* the pressure is not from 0 to 1,000 bar */
+#define WARPSORREL_REFUSED_CUT 6u          /* the record is cut short */
+#define WARPSORREL_REFUSED_KIND 7u         /* the kind is none of 1, 2, 3 */
+#define WARPSORREL_REFUSED_LENGTH 8u       /* the length is not the kind's own */
+#define WARPSORREL_REFUSED_ROOM 30u        /* the room is too small */
+#define WARPSORREL_REFUSED_PAIR_NUMBER 31u /* the pair number is not from 1 to 9,999 */
+
+/* A needle's refusal is one of these plus the refusal of that side, 1 to 8: 103 is "left: the salinity is not from 0 to 42". */
+#define WARPSORREL_REFUSED_LEFT 100u
+#define WARPSORREL_REFUSED_RIGHT 200u
 
 /* ---- Grid numbers: sigma is the salinity in 0.001 (0 to 42,000), tau the temperature in 0.001 degrees C (-2,000 to 40,000),
  * pi the pressure above the atmosphere in 0.01 bar (0 to 100,000). */
@@ -80,7 +109,8 @@ uint32_t warpsorrel_pair(const uint8_t *stream, size_t length, size_t before, in
 #define WARPSORREL_PAGE 118916
 
 /* The stream's page, at the start of out: 0, and count gets the bytes written; the bytes past them keep their values. Or the refusal 30 for a
- * room under WARPSORREL_PAGE; count gets 0 then, and out is untouched. A stream over 60,000 bytes has the page "too long". */
+ * room under WARPSORREL_PAGE; count gets 0 then, and out is untouched. A stream over 60,000 bytes has the page "too long". stream and out must
+ * not overlap. */
 uint32_t warpsorrel_page(const uint8_t *stream, size_t length, uint8_t *out, size_t room, size_t *count);
 
 #ifdef __cplusplus

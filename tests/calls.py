@@ -3,7 +3,7 @@
 
     python3 tests/calls.py COMMAND ...      the command that starts the driver (tests/driver.c)
 
-Pairs, pair and page on the hard streams of tests/streams.py and on longer ones; lines of every kind of entry, number and room,
+The version; pairs, pair and page on the hard streams of tests/streams.py and on longer ones; lines of every kind of entry, number and room,
 each with each; every kind of report; special floats in every rounding mode, with denormals kept and flushed. That nothing else is written is the
 driver's to see: it ends then, which counts as a difference.
 """
@@ -21,6 +21,7 @@ from model import CUT, LENGTH, LONGEST_PAGE, bits_of, channel, needle
 from streams import (ALL_KINDS, DEEP, HUGE, INFINITIES, LONGEST, MISSING, NANS, PLAIN, SURFACE, TINY, ZEROS, any_record, covered, deep,
                      halves, hard_streams, made, specials, surface)
 
+VERSION = 1
 SHORTEST_ROOM = 32  # for a line
 NOWHERE = 2**64 - 1  # for a length or a room: NULL, and 0 bytes
 PATIENCE = 300  # seconds after which a driver counts as hanging
@@ -40,6 +41,10 @@ def words(*numbers):
 
 def asked(letter, code, *numbers):
     return letter + struct.pack("<" + code, *numbers)
+
+
+def version_call():
+    return Call("version", b"v", struct.pack("<I", VERSION))
 
 
 def stream_call(stream):
@@ -197,7 +202,7 @@ def mode_calls(reports):
     """A batch for each mode. The recorder divides in the mode that it finds, so it is held to the model to nearest alone."""
     plain = (1, *PLAIN)
     records = [record_of(*report) for report in reports]
-    calls = [channel_call(report) for report in reports]
+    calls = [version_call(), *(channel_call(report) for report in reports)]
     for left, right in [*zip(reports, repeat(plain)), *zip(repeat(plain), reports)]:
         calls += [needle_call(left, right), line_call(9_999, left, right, SHORTEST_ROOM)]
     for stream in (r + DEEP for r in records):
@@ -212,7 +217,7 @@ def mode_calls(reports):
 
 # ---- the driver
 
-SIZES = {"stream": 0, "pairs": 8, "pair": 72, "channel": 48, "needle": 32, "recorder": 4, "mode": 4}  # of the answers
+SIZES = {"version": 4, "stream": 0, "pairs": 8, "pair": 72, "channel": 48, "needle": 32, "recorder": 4, "mode": 4}  # of the answers
 
 
 def taken(what, answers, at):
@@ -223,7 +228,7 @@ def taken(what, answers, at):
 
 
 def in_words(what, answer):
-    if what in ("recorder", "mode"):
+    if what in ("version", "recorder", "mode"):
         return answer.hex()
     if what in ("line", "page"):
         text = answer[16:]

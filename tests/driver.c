@@ -130,6 +130,12 @@ static struct report need_report(void) {
     return report;
 }
 
+/* v: the version (uint32) */
+static void version(void) {
+    uint32_t number = warpsorrel_version();
+    give(&number, sizeof number);
+}
+
 /* g sigma tau pi (int64 each): refusal, density, bulk modulus (uint32 each) */
 static void grid_reading(void) {
     int64_t in[3];
@@ -237,6 +243,7 @@ int main(void) {
     make_fence();
     for (int letter; (letter = getchar()) != EOF;) {
         switch (letter) {
+        case 'v': version(); break;
         case 'g': grid_reading(); break;
         case 'c': channel(); break;
         case 'n': needle(); break;
