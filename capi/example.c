@@ -1,5 +1,6 @@
 /* Two waters compared, from C: every function of warpsorrel.h once or more. It prints capi/expected. */
 #include <inttypes.h>
+#include <math.h>
 #include <stdio.h>
 #include <stdlib.h>
 #include <string.h>
@@ -51,21 +52,50 @@ static struct pair pair_of(const uint8_t *stream, size_t length, size_t before) 
     return (struct pair){found, {out[0], out[1], out[2]}, {out[3], out[4], out[5]}, out[6], out[7]};
 }
 
+static const char *words_of(uint32_t refusal) {
+    switch (refusal) {
+    case WARPSORREL_REFUSED_MISSING: return "missing";
+    case WARPSORREL_REFUSED_NOT_FINITE: return "a NaN or an infinity";
+    case WARPSORREL_REFUSED_SALINITY: return "the salinity is not from 0 to 42";
+    case WARPSORREL_REFUSED_TEMPERATURE: return "the temperature is not from -2 to 40 degrees C";
+    case WARPSORREL_REFUSED_PRESSURE: return "the pressure is not from 0 to 1,000 bar";
+    case WARPSORREL_REFUSED_CUT: return "the record is cut short";
+    case WARPSORREL_REFUSED_KIND: return "the kind is none of 1, 2, 3";
+    case WARPSORREL_REFUSED_LENGTH: return "the length is not the kind's own";
+    case WARPSORREL_REFUSED_ROOM: return "the room is too small";
+    case WARPSORREL_REFUSED_PAIR_NUMBER: return "the pair number is not from 1 to 9,999";
+    default: return "no refusal of this version";
+    }
+}
+
+static void tell(uint32_t refusal) {
+    if (refusal > WARPSORREL_REFUSED_RIGHT) {
+        printf("  %" PRIu32 ": right: %s\n", refusal, words_of(refusal - WARPSORREL_REFUSED_RIGHT));
+    } else if (refusal > WARPSORREL_REFUSED_LEFT) {
+        printf("  %" PRIu32 ": left: %s\n", refusal, words_of(refusal - WARPSORREL_REFUSED_LEFT));
+    } else if (refusal != 0) {
+        printf("  %" PRIu32 ": %s\n", refusal, words_of(refusal));
+    }
+}
+
 static void show_grid(int64_t sigma, int64_t tau, int64_t pi) {
     printf("grid %" PRId64 " %" PRId64 " %" PRId64 ": refusal %" PRIu32 ", density %" PRIu32 ", bulk modulus %" PRIu32 "\n", sigma, tau, pi,
            warpsorrel_refusal(sigma, tau, pi), warpsorrel_density(sigma, tau, pi), warpsorrel_bulk(sigma, tau, pi));
+    tell(warpsorrel_refusal(sigma, tau, pi));
 }
 
 static void show_channel(struct report r) {
     struct channel c = channel_of(r);
     printf("%s: refusal %" PRIu32 ", grid %" PRId64 " %" PRId64 " %" PRId64 ", density %" PRId64 ", bulk modulus %" PRId64 "\n", r.name,
            c.refusal, c.sigma, c.tau, c.pi, c.density, c.bulk);
+    tell(c.refusal);
 }
 
 static void show_needle(struct report l, struct report r) {
     struct needle n = needle_of(l, r);
     printf("needle of %s, %s: refusal %" PRIu32 ", densities %" PRId64 " %" PRId64 ", needle %" PRId64 "\n", l.name, r.name, n.refusal,
            n.left, n.right, n.value);
+    tell(n.refusal);
 }
 
 static void show_recorder(uint32_t shown) {
@@ -83,6 +113,7 @@ static void show_line(uint32_t number, struct report l, struct report r, size_t 
                                        out, room, &count);
     printf("line %" PRIu32 " of %s, %s in a room of %zu: refusal %" PRIu32 ", %zu bytes\n", number, l.name, r.name, room, refusal, count);
     fwrite(out, 1, count, stdout);
+    tell(refusal);
 }
 
 static void show_pair(const uint8_t *stream, size_t length, size_t before) {
@@ -94,6 +125,7 @@ static void show_pair(const uint8_t *stream, size_t length, size_t before) {
     printf("pair with %zu before it: left %" PRId64 " %" PRId64 " %" PRId64 ", right %" PRId64 " %" PRId64 " %" PRId64 ", needle %" PRId64
            " %" PRId64 "\n", before, p.left.refusal, p.left.density, p.left.bulk, p.right.refusal, p.right.density, p.right.bulk,
            p.needle_refusal, p.needle);
+    tell((uint32_t)p.needle_refusal);
 }
 
 static void show_page(const uint8_t *stream, size_t length, size_t room) {
@@ -103,10 +135,18 @@ static void show_page(const uint8_t *stream, size_t length, size_t room) {
     uint32_t refusal = warpsorrel_page(stream, length, out, room, &count);
     printf("page in a room of %zu: refusal %" PRIu32 ", %zu bytes\n", room, refusal, count);
     fwrite(out, 1, count, stdout);
+    tell(refusal);
     free(out);
 }
 
 int main(void) {
+    /* A shared library may be another one than this program was compiled for. */
+    if (warpsorrel_version() != WARPSORREL_VERSION) {
+        fprintf(stderr, "the library is of version %" PRIu32 ", and this program was written for version %u\n", warpsorrel_version(),
+                WARPSORREL_VERSION);
+        return 2;
+    }
+    printf("version %" PRIu32 "\n", warpsorrel_version());
     show_grid(35000, 25000, 100000);
     show_grid(42001, 25000, 100000);
 
@@ -114,9 +154,15 @@ int main(void) {
     const struct report deep = {"deep", WARPSORREL_DEEP, 34.25f, 7.5f, 4};
     const struct report brine = {"brine", WARPSORREL_DEEP, 42.25f, 7.5f, 4};
     const struct report none = {"none", WARPSORREL_MISSING, 0, 0, 0};
-    show_channel(fjord);
-    show_channel(deep);
-    show_channel(brine);
+    const struct report broken = {"broken", WARPSORREL_SURFACE, NAN, 7.5f, 0};
+    const struct report hot = {"hot", WARPSORREL_SURFACE, 34.25f, 40.5f, 0};
+    const struct report abyss = {"abyss", WARPSORREL_DEEP, 34.25f, 7.5f, 1000.5f};
+    /* Records that gave no reading have a channel, and a place on a line, too. */
+    const struct report cut = {"cut", WARPSORREL_CUT, 0, 0, 0};
+    const struct report unknown = {"unknown", WARPSORREL_UNKNOWN, 0, 0, 0};
+    const struct report length = {"length", WARPSORREL_LENGTH, 0, 0, 0};
+    const struct report every[] = {fjord, deep, none, broken, brine, hot, abyss, cut, unknown, length};
+    for (size_t i = 0; i < sizeof every / sizeof *every; i++) show_channel(every[i]);
     show_needle(fjord, deep);
     show_needle(deep, fjord);
     show_needle(fjord, brine);
@@ -124,10 +170,6 @@ int main(void) {
     show_recorder((uint32_t)channel_of(deep).density);
     show_recorder(16384000);
 
-    /* Records that gave no reading have a place on a line too. */
-    const struct report cut = {"cut", WARPSORREL_CUT, 0, 0, 0};
-    const struct report unknown = {"unknown", WARPSORREL_UNKNOWN, 0, 0, 0};
-    const struct report length = {"length", WARPSORREL_LENGTH, 0, 0, 0};
     show_line(1, fjord, deep, WARPSORREL_LINE);
     show_line(9999, deep, fjord, WARPSORREL_LINE);
     show_line(2, fjord, cut, WARPSORREL_LINE);

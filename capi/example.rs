@@ -4,6 +4,7 @@
 mod panel {
     mod abi {
         extern "C" {
+            pub fn warpsorrel_version() -> u32;
             pub fn warpsorrel_refusal(sigma: i64, tau: i64, pi: i64) -> u32;
             pub fn warpsorrel_density(sigma: i64, tau: i64, pi: i64) -> u32;
             pub fn warpsorrel_bulk(sigma: i64, tau: i64, pi: i64) -> u32;
@@ -23,6 +24,36 @@ mod panel {
             pub fn warpsorrel_pairs(stream: *const u8, length: usize) -> usize;
             pub fn warpsorrel_pair(stream: *const u8, length: usize, before: usize, out: *mut [i64; 8]) -> u32;
             pub fn warpsorrel_page(stream: *const u8, length: usize, out: *mut u8, room: usize, count: *mut usize) -> u32;
+        }
+    }
+
+    /// The version that these declarations were written for.
+    pub const VERSION: u32 = 1;
+
+    /// The version of the library.
+    pub fn version() -> u32 {
+        unsafe { abi::warpsorrel_version() }
+    }
+
+    /// Why something is refused, in words; a needle's refusal has its side before them.
+    pub fn words(refusal: u32) -> String {
+        let words = match refusal % 100 {
+            1 => "missing",
+            2 => "a NaN or an infinity",
+            3 => "the salinity is not from 0 to 42",
+            4 => "the temperature is not from -2 to 40 degrees C",
+            5 => "the pressure is not from 0 to 1,000 bar",
+            6 => "the record is cut short",
+            7 => "the kind is none of 1, 2, 3",
+            8 => "the length is not the kind's own",
+            30 => "the room is too small",
+            31 => "the pair number is not from 1 to 9,999",
+            _ => "no refusal of this version",
+        };
+        match refusal / 100 {
+            1 => format!("left: {}", words),
+            2 => format!("right: {}", words),
+            _ => words.to_string(),
         }
     }
 
@@ -162,18 +193,27 @@ mod panel {
 
 use panel::{Grid, Report};
 
+fn tell(refusal: u32) {
+    if refusal != 0 {
+        println!("  {}: {}", refusal, panel::words(refusal));
+    }
+}
+
 fn show_grid(g: Grid) {
     println!("grid {} {} {}: refusal {}, density {}, bulk modulus {}", g.sigma, g.tau, g.pi, g.refusal(), g.density(), g.bulk());
+    tell(g.refusal());
 }
 
 fn show_channel((name, report): (&str, Report)) {
     let c = report.channel();
     println!("{}: refusal {}, grid {} {} {}, density {}, bulk modulus {}", name, c.refusal, c.at.sigma, c.at.tau, c.at.pi, c.density, c.bulk);
+    tell(c.refusal);
 }
 
 fn show_needle(left: (&str, Report), right: (&str, Report)) {
     let n = panel::needle(left.1, right.1);
     println!("needle of {}, {}: refusal {}, densities {} {}, needle {}", left.0, right.0, n.refusal, n.left, n.right, n.value);
+    tell(n.refusal);
 }
 
 fn show_recorder(shown: u32) {
@@ -189,6 +229,7 @@ fn show_text(what: &str, room: usize, written: Result<&[u8], u32>) {
     };
     println!("{} in a room of {}: refusal {}, {} bytes", what, room, refusal, text.len());
     print!("{}", std::str::from_utf8(text).expect("lines and pages are plain text"));
+    tell(refusal);
 }
 
 fn show_line(number: u32, left: (&str, Report), right: (&str, Report), room: usize) {
@@ -200,10 +241,13 @@ fn show_pair(stream: &[u8], before: usize) {
     print!("pair with {} before it: ", before);
     match panel::pair(stream, before) {
         None => println!("none"),
-        Some(p) => println!(
-            "left {} {} {}, right {} {} {}, needle {} {}",
-            p.left.refusal, p.left.density, p.left.bulk, p.right.refusal, p.right.density, p.right.bulk, p.needle_refusal, p.needle
-        ),
+        Some(p) => {
+            println!(
+                "left {} {} {}, right {} {} {}, needle {} {}",
+                p.left.refusal, p.left.density, p.left.bulk, p.right.refusal, p.right.density, p.right.bulk, p.needle_refusal, p.needle
+            );
+            tell(p.needle_refusal as u32);
+        }
     }
 }
 
@@ -213,6 +257,8 @@ fn show_page(stream: &[u8], room: usize) {
 }
 
 fn main() {
+    assert_eq!(panel::version(), panel::VERSION, "the library is of another version than this program was written for");
+    println!("version {}", panel::version());
     show_grid(Grid { sigma: 35_000, tau: 25_000, pi: 100_000 });
     show_grid(Grid { sigma: 42_001, tau: 25_000, pi: 100_000 });
 
@@ -220,9 +266,16 @@ fn main() {
     let deep = ("deep", Report::Deep { salinity: 34.25, temperature: 7.5, pressure: 4.0 });
     let brine = ("brine", Report::Deep { salinity: 42.25, temperature: 7.5, pressure: 4.0 });
     let none = ("none", Report::Missing);
-    show_channel(fjord);
-    show_channel(deep);
-    show_channel(brine);
+    let broken = ("broken", Report::Surface { salinity: f32::NAN, temperature: 7.5 });
+    let hot = ("hot", Report::Surface { salinity: 34.25, temperature: 40.5 });
+    let abyss = ("abyss", Report::Deep { salinity: 34.25, temperature: 7.5, pressure: 1_000.5 });
+    // Records that gave no reading have a channel, and a place on a line, too.
+    let cut = ("cut", Report::Cut);
+    let unknown = ("unknown", Report::UnknownKind);
+    let length = ("length", Report::WrongLength);
+    for each in [fjord, deep, none, broken, brine, hot, abyss, cut, unknown, length] {
+        show_channel(each);
+    }
     show_needle(fjord, deep);
     show_needle(deep, fjord);
     show_needle(fjord, brine);
@@ -230,10 +283,6 @@ fn main() {
     show_recorder(deep.1.channel().density as u32);
     show_recorder(16_384_000);
 
-    // Records that gave no reading have a place on a line too.
-    let cut = ("cut", Report::Cut);
-    let unknown = ("unknown", Report::UnknownKind);
-    let length = ("length", Report::WrongLength);
     show_line(1, fjord, deep, panel::LINE);
     show_line(9_999, deep, fjord, panel::LINE);
     show_line(2, fjord, cut, panel::LINE);
