@@ -6,7 +6,6 @@
 The trials of tests/programs.py, the hard streams of tests/streams.py, every grid number of the three quantities, the sample of examples/, and
 what README.md and docs/FORMAT.md show of it.
 """
-import re
 import subprocess
 import sys
 import tempfile
@@ -14,7 +13,7 @@ from pathlib import Path
 
 import model
 from model import LONGEST_DETAILS, LONGEST_STREAM, QUANTITIES, pairs
-from programs import PATIENCE, ROOT, SAMPLE, Trial
+from programs import PATIENCE, SAMPLE, Trial, block
 from streams import LONGEST, bits_of, deep, hard_streams
 
 
@@ -34,13 +33,6 @@ def covered(every):
         assert numbers == set(range(low * unit, high * unit + 1)), name
     assert {0, LONGEST_STREAM, LONGEST_STREAM + 1} <= set(map(len, every)) and LONGEST in every
     assert len(model.details(LONGEST)) == LONGEST_DETAILS and model.details(LONGEST).endswith(b"\n7500,right,R1,R1,R1,R1,R1\n")
-
-
-def block(document, first):
-    """The one fenced block of a document that starts with this line."""
-    fenced = re.findall(r"^```\w*\n(.*?)^```$", (ROOT / document).read_text("utf-8"), re.M | re.S)
-    [text] = [text for text in fenced if text.startswith(first + "\n")]
-    return text
 
 
 class Details(Trial):

@@ -6,6 +6,7 @@ import os
 import platform
 import re
 import shutil
+import signal
 import subprocess
 import sys
 import tempfile
@@ -24,14 +25,23 @@ SAMPLE = ROOT / "examples" / "two-intakes.bin"
 WORKERS = 2
 PATIENCE = 30  # seconds after which a run counts as hanging
 
+
+def block(document, first):
+    """The one fenced block of a document that starts with this line."""
+    fenced = re.findall(r"^```\w*\n(.*?)^```$", (ROOT / document).read_text("utf-8"), re.M | re.S)
+    [text] = [text for text in fenced if text.startswith(first + "\n")]
+    return text
+
+
 # ---- a program
 
 
 class Started:
-    """A started program. When its time is over it is stopped and counts as hanging, so that no wait for it is without end."""
+    """A started program. When its time is over it is stopped and counts as hanging, so that no wait for it is without end; one that starts
+    others wants a session of its own, so that they are stopped too."""
 
     def __init__(self, command, **how):
-        self.hangs = False
+        self.hangs, self.alone = False, not how.get("start_new_session")
         self.process = subprocess.Popen(command, bufsize=0, **how)
         self.timer = threading.Timer(PATIENCE, self.stop)
         self.timer.daemon = True
@@ -39,7 +49,10 @@ class Started:
 
     def stop(self):
         self.hangs = True
-        self.process.kill()
+        if self.alone:
+            return self.process.kill()
+        with suppress(ProcessLookupError):
+            os.killpg(self.process.pid, signal.SIGKILL)
 
     def end(self):
         """Words for what is wrong with its end, if anything is."""
@@ -262,7 +275,8 @@ class Trial:
             Path(room, self.name).write_bytes(EXAMPLE)
             for first in [[self.name]] + [[]] * (self.name == "sheet"):
                 for rest, stream in ways:
-                    run = Started([ROOT / "run", *first, *rest], stdin=subprocess.PIPE, stdout=subprocess.PIPE, cwd=room)
+                    how = {"stdin": subprocess.PIPE, "stdout": subprocess.PIPE, "cwd": room, "start_new_session": True}
+                    run = Started([ROOT / "run", *first, *rest], **how)
                     self.compare(" ".join(["./run", *first, *rest]), stream, run.printed(ALL_KINDS))
 
     def hold(self):

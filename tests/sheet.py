@@ -55,7 +55,7 @@ class Sheet(Trial):
     def texts(self):
         for text, stream in MAKES:
             self.holds(text, (0, stream, ""), self.make_stream(text))
-        note = "make-stream: note: the last left has no right; sheet will show R6 for it\n"
+        note = "make-stream: note: the last left has no right; R6 will stand for it\n"
         self.holds("an odd number of readings", (0, DEEP, note), self.make_stream(b"deep 35 5 250"))
         with tempfile.TemporaryDirectory() as room:
             target, absent = Path(room, "stream"), Path(room, "absent")
