@@ -1,6 +1,6 @@
 #!/usr/bin/env python3
 """Tries the command ./run as a stranger may: wrong words, odd names, text, files that cannot be read, a terminal, a full disk, closed pipes,
-a kit that proves, refuses or is not there; and holds README.md to the sample page.
+a kit that proves, refuses or is not there; and holds README.md to the sample page and the refusal numbers.
 
     python3 tests/run.py
 
@@ -373,9 +373,18 @@ def kit(tries, room):
 # ---- README.md
 
 
+def numbers(document):
+    """Those that the rows of its tables begin with."""
+    rows = re.findall(r"^\| R?(\d+)(?: to R(\d+))? \|", (ROOT / document).read_text("utf-8"), re.M)
+    return sorted(n for first, last in rows for n in range(int(first), int(last or first) + 1))
+
+
 def readme(tries):
     tries.holds("README.md: the sample page", model.EXAMPLE_PAGE.decode(), block("README.md", model.HEADER.decode().rstrip()))
     tries.run("./run crates/sheet/stdin", 0, model.EXAMPLE_PAGE, ["crates/sheet/stdin"], cwd=ROOT)
+    every = [*range(1, 9), 30, 31, *range(101, 109), *range(201, 209)]
+    tries.holds("README.md: every refusal number, once", every, numbers("README.md"))
+    tries.holds("docs/FORMAT.md: kinds, and refusals of a reading", sorted([1, 2, 3, *range(1, 9)]), numbers("docs/FORMAT.md"))
 
 
 def main():
