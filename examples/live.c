@@ -1,0 +1,20 @@
+/* Watches two probes: a line of standard input is a pair, left then right, as KIND SALINITY TEMPERATURE PRESSURE each. */
+#include <inttypes.h>
+#include <stdio.h>
+#include "warpsorrel.h"
+
+int main(void) {
+    char line[256], more[2];
+    while (fgets(line, sizeof line, stdin)) {
+        uint32_t left, right; /* kinds: 1 deep, 2 surface, 3 missing */
+        float ls = 0, lt = 0, lp = 0, rs = 0, rt = 0, rp = 0;
+        int64_t out[3]; /* left density, right density and needle, in 0.001 kg/m3 */
+        if (sscanf(line, "%" SCNu32 "%f%f%f%" SCNu32 "%f%f%f%1s", &left, &ls, &lt, &lp, &right, &rs, &rt, &rp, more) != 8)
+            left = right = WARPSORREL_CUT; /* not the eight numbers: no reading */
+        uint32_t refused = warpsorrel_needle(left, ls, lt, lp, right, rs, rt, rp, out);
+        if (refused) printf("no needle: R%" PRIu32 "\n", refused); /* before all else: a refused needle is 0 too */
+        else if (imaxabs(out[2]) < 2) puts("alike");
+        else printf("the %s is heavier by %.3f kg/m3\n", out[2] > 0 ? "right" : "left", imaxabs(out[2]) / 1000.0);
+        if (fflush(stdout)) return 1; /* the answer goes out now, not when a buffer is full */
+    }
+}
