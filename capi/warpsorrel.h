@@ -63,8 +63,8 @@ uint32_t warpsorrel_density(int64_t sigma, int64_t tau, int64_t pi);
 uint32_t warpsorrel_bulk(int64_t sigma, int64_t tau, int64_t pi);
 
 /* ---- Reports: practical salinity, temperature in degrees C, pressure in bar above the atmosphere. The kind is a record's: deep, surface
- * (the pressure is taken as 0 and its float not read), missing (no float is read). A record that gave no reading has a kind too, which no
- * record has: CUT for refusal 6, LENGTH for refusal 8 (no float is read). Every other kind, UNKNOWN among them, is refused by 7, as a record's. */
+ * (the pressure is taken as 0 and its float not read), missing (no float is read). Three more, which no record has for a kind, stand for a
+ * record that gave no reading: CUT for refusal 6, LENGTH for 8, UNKNOWN for 7 (no float is read). Every other kind is refused by 7 too. */
 #define WARPSORREL_DEEP 1u
 #define WARPSORREL_SURFACE 2u
 #define WARPSORREL_MISSING 3u
@@ -98,7 +98,7 @@ uint32_t warpsorrel_line(uint32_t number,
 
 /* ---- Streams of records, as the panel's probes write them (docs/FORMAT.md). */
 
-/* How many pairs a stream has. */
+/* How many pairs a stream has, of any length: the limit of 60,000 bytes is the page's alone. */
 size_t warpsorrel_pairs(const uint8_t *stream, size_t length);
 
 /* The pair of a stream with so many pairs before it (0 for the sheet's pair 1): 1, and out gets refusal, density and bulk modulus of the left,

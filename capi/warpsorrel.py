@@ -354,6 +354,7 @@ class Panel:
     def line(self, number: SupportsIndex, left: Report, right: Report, room: int = LINE) -> Written:
         """The sheet's line of two reports: pair number, both densities and the needle in 0.001 kg/m3, a line feed. A refused place shows R and
         its number. Refused itself by ROOM for a room under LINE bytes, then by PAIR_NUMBER for a number that is not from 1 to 9,999."""
+        room = _whole("room", room, 0, 2**63 - 1)
         out, count = ctypes.create_string_buffer(room), c_size_t()
         refusal = self._calls.line(_unsigned("number", number), *_parts(left), *_parts(right), out, room, ctypes.byref(count))
         return Written(Refusal(refusal), out.raw[: count.value].decode("ascii"))
@@ -377,6 +378,7 @@ class Panel:
         """The page of a stream: a header and a line for each pair, as the program sheet prints it; "too long" for one over 60,000 bytes.
         Refused by ROOM for a room under PAGE bytes."""
         stream = _bytes(stream)
+        room = _whole("room", room, 0, 2**63 - 1)
         out, count = ctypes.create_string_buffer(room), c_size_t()
         refusal = self._calls.page(stream, len(stream), out, room, ctypes.byref(count))
         return Written(Refusal(refusal), out.raw[: count.value].decode("ascii"))

@@ -1,4 +1,4 @@
-//! Channels from floats: the examples of the paper, limits, halves of the grid, bad values each with each, random floats.
+//! Channels from floats: the examples of SPEC, limits, halves of the grid, bad values each with each, random floats.
 
 use crate::floats::{Float, INFINITE};
 use crate::panel::{long, Panel};
@@ -100,7 +100,7 @@ fn compare(panel: &Panel, formula: &Formula, seen: &mut BTreeSet<u32>, name: &'s
     tally
 }
 
-/// What the paper says in so many words: grid numbers or a refusal. The floats are patterns: 35, 5 and 100 at first.
+/// What SPEC says in so many words: grid numbers or a refusal. The floats are patterns: 35, 5 and 100 at first.
 fn examples() -> Vec<(Report, Result<[i64; 3], u32>)> {
     let plain = Report { kind: 1, floats: [Float(0x420c_0000), Float(0x40a0_0000), Float(0x42c8_0000)] };
     let with = |place, bits| plain.with(place, Float(bits));
@@ -143,7 +143,7 @@ fn examples() -> Vec<(Report, Result<[i64; 3], u32>)> {
 }
 
 fn paper(panel: &Panel, formula: &Formula) -> Tally {
-    let mut tally = Tally::new("the paper's examples of floats");
+    let mut tally = Tally::new("SPEC's examples of floats");
     let grid = |c: Channel| c.map(|five| [five[0], five[1], five[2]]);
     panel.ask(&examples(), |x, bytes| request(&x.0, bytes), |(report, said), bytes| {
         tally.same(grid(answer(bytes)), *said, report);

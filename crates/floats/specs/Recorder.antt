@@ -1,4 +1,4 @@
--- SPEC, "Recorder float".
+-- SPEC, "The recipe in whole numbers": the recorder's float.
 use Prim.Native.Nat.{ℕ}
 use mathlib.Core.Bool.{false, cond}
 use lib.Dec.{ltb}

@@ -1,4 +1,4 @@
--- SPEC, "Refusal numbers and their order" and "Needle": a channel from what stands in it, the needle from two channels.
+-- SPEC, "Refusal numbers and their order" and "The recipe in whole numbers": a channel from what stands in it, the needle from two channels.
 use Prim.Native.Nat.{ℕ, _+_}
 use lib.IntN.{ℤ, pos, _-ℤ_}
 use Rattle.refusals.specs.Number.{numberOf, refusalOf}
