@@ -2,7 +2,7 @@
 use mathlib.Core.Path.{_≡_, refl}
 use mathlib.Core.List.{[], _∷_}
 use lib.IntN.{pos, negsuc}
-use Rattle.cells.specs.Cells.{spelled, decimal, wordText, pointed, Cell, fixed, whole, refusal, word, cellText, cellOf, cells, rowText}
+use Rattle.cells.specs.Cells.{spelled, decimal, wordText, pointed, fixed, whole, refusal, word, cellText, cellOf, cells, rowText}
 
 -- 0, 9, 10, 99999 and -1
 pub plain-bytes :

@@ -1,7 +1,7 @@
 -- Numbers to a base without the bound in their definition: one digit below the base, else the digits of the quotient and one more.
 -- Dividing lowers a number of two digits or more, so the number itself is bound enough. Decimals are to the base 10, words to 256.
 -- Assumes nothing.
-use Prim.Native.Nat.{ℕ, zero, suc, _+_, _*_, _/_, _%_, _^_, _≤_, _<_}
+use Prim.Native.Nat.{ℕ, zero, suc, _+_, _/_, _%_, _^_, _≤_, _<_}
 use mathlib.Core.Path.{_≡_, refl, ap, _∙_}
 use mathlib.Core.List.{List, [], _∷_, _++_}
 use mathlib.Core.Bool.{Bool, true, false, cond}

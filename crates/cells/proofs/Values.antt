@@ -1,13 +1,13 @@
 -- What the texts say, for every number: digits and letters read back give their number; a number with k decimal places is its digits above
 -- 10 to the k, a point, and k digits, which together make it; a minus is all that a negative number has more. Assumes nothing.
 use Prim.Native.Nat.{ℕ, zero, suc, _+_, _*_, _-_, _/_, _%_, _^_, _≤_, _<_}
-use mathlib.Core.Path.{_≡_, refl, sym, ap, _∙_}
+use mathlib.Core.Path.{_≡_, refl, ap, _∙_}
 use mathlib.Core.List.{List, [], _∷_, _++_, append-assoc}
 use mathlib.Core.Bool.{Bool, true, false, cond}
 use native.Mathlib.Omega.{arith}
-use native.Mathlib.Nat.{zero-add, add-zero, div-one, div-add-mod', div-div-eq-div-mul, mul-assoc, mul-comm, add-mul, mul-one}
+use native.Mathlib.Nat.{div-one, div-add-mod', div-div-eq-div-mul, mul-assoc, mul-one}
 use lib.ListN.{length, length-append}
-use lib.IntN.{ℤ, pos, negsuc}
+use lib.IntN.{pos, negsuc}
 use lib.Dec.{ltb}
 use borrow.Author.Tests.{ltb-false}
 use Rattle.cells.specs.Cells.{spelled, decimal, wordText, pointed, Cell, fixed, cellText, rowText}

@@ -1,12 +1,12 @@
 -- How long a row is: a byte more than each cell's text. And how long the text of a cell is at most. Assumes nothing.
 use Prim.Native.Nat.{ℕ, zero, suc, _+_, _/_, _%_, _^_, _≤_, _<_}
-use mathlib.Core.Path.{_≡_, refl, ap, _∙_}
+use mathlib.Core.Path.{_≡_, refl}
 use mathlib.Core.List.{List, [], _∷_, _++_}
 use native.Mathlib.Omega.{arith}
 use native.Mathlib.Nat.{zero-add, suc-add}
 use lib.ListN.{length, length-append}
 use lib.IntN.{ℤ, pos, negsuc, natAbs}
-use Rattle.cells.specs.Cells.{decimal, pointed, fixedText, numberText, Cell, cellText, rowText}
+use Rattle.cells.specs.Cells.{decimal, pointed, numberText, Cell, cellText, rowText}
 use Rattle.cells.proofs.Decimal.{decimal-width}
 use Rattle.cells.proofs.Ends.{one-longer}
 
