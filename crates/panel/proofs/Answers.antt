@@ -16,7 +16,8 @@ use Rattle.readings.proofs.Reasons.{OnGrid, Gridded, Reason}
 use Rattle.readings.proofs.Answers as reading
 use Rattle.waters.specs.declared.Water.{Water}
 use Rattle.sea.specs.Water.{waterOf}
-use Rattle.sea.proofs.Answers.{OnTable, known-on-table}
+use Rattle.sea.specs.Sizes.{OnTable}
+use Rattle.sea.proofs.Answers.{known-on-table}
 use Rattle.readings.specs.declared.Entry.{Entry}
 use Rattle.channels.specs.declared.Channel.{Channel}
 use Rattle.panel.specs.Panel.{filled, wateredOf, checkedChannel, channelOf}
@@ -31,7 +32,7 @@ pub data Case : Entry → Channel → Type 0 where
 unknown : {d k : ℕ} {r : Refusal} → Water.Known d k ≡ Water.Refused r → ⊥
 unknown e = let z : _≡_ {A = ℕ} 0 1 = cc in omega arith
 
-on-table : (p : Point) → OnGrid p → OnTable (p .sigma) (p .tau) (p .pi)
+pub on-table : (p : Point) → OnGrid p → OnTable (p .sigma) (p .tau) (p .pi)
 on-table p g =
     record {
       salinity = record { low = g .sigma-low; high = g .sigma-high };

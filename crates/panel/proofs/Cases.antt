@@ -1,29 +1,43 @@
--- The needle of each pair of answers, in numbers: what a definition and its code would have to get wrong together is held to literals here.
--- Assumes nothing.
+-- The needle of each pair of answers, in numbers: what a definition and its code would have to get wrong together is held to literals here. The
+-- waters are those of SPEC's check points: salinity 0 and 35, 5 and 25 °C, 0 and 1,000 bar. Assumes nothing.
 use mathlib.Core.Path.{_≡_, refl}
 use Prim.Native.Nat.{ℕ}
 use lib.IntN.{pos}
-use Rattle.whole.specs.Arith.{neg}
+use Rattle.whole.specs.Arith.{neg, scaled, rowValue, rootFrom, rootOf}
+use Rattle.sea.specs.Table.{Dw, Ds, Dr, Dss, Kw, Ks, Kr, Aw, As, Ar, Bw, Bs}
+use Rattle.sea.specs.Recipe.{rowsAt, rootAt, surface, K0, A, B, bulk, mass, net, gain, density, shown, bulkOf, shownOf, shownAt}
 use Rattle.refusals.specs.declared.Refusal.{Refusal}
 use Rattle.readings.specs.declared.Point.{Point}
 use Rattle.channels.specs.declared.Channel.{Channel}
 use Rattle.channels.specs.declared.Needle.{Needle}
 use Rattle.panel.specs.Panel.{needleOf}
 
--- salinity 35 and 0, both at the surface and 5 °C, wherever they stand
-abbrev sea : Point → Channel
-sea p = Channel.Accepted p 1_027_675 2_218_593
+-- at a pressure in 0.01 bar: salt water of 5 °C, fresh water of 25 °C
+abbrev salt : ℕ → Point
+salt π = record { sigma = pos 35_000; tau = pos 5_000; pi = pos π }
 
-abbrev fresh : Point → Channel
-fresh p = Channel.Accepted p 999_967 2_033_780
+abbrev warm : ℕ → Point
+warm π = record { sigma = pos 0; tau = pos 25_000; pi = pos π }
+
+-- whatever the channels show: 1,037,902 − 1,069,489 wherever one of the two stands at 1,000 bar, 997,048 − 1,027,675 where both are at the
+-- surface; and the other way round
+pub needles :
+    (d k c j : ℕ) →
+    (needleOf (Channel.Accepted (salt 100_000) d k) (Channel.Accepted (warm 0) c j) ≡ Needle.Value (neg 31_587))
+    × ((needleOf (Channel.Accepted (salt 0) d k) (Channel.Accepted (warm 100_000) c j) ≡ Needle.Value (neg 31_587))
+    × ((needleOf (Channel.Accepted (salt 0) d k) (Channel.Accepted (warm 0) c j) ≡ Needle.Value (neg 30_627))
+    × ((needleOf (Channel.Accepted (warm 0) d k) (Channel.Accepted (salt 100_000) c j) ≡ Needle.Value (pos 31_587))
+    × ((needleOf (Channel.Accepted (warm 100_000) d k) (Channel.Accepted (salt 0) c j) ≡ Needle.Value (pos 31_587))
+    × (needleOf (Channel.Accepted (salt 0) d k) (Channel.Accepted (salt 100_000) c j) ≡ Needle.Value (pos 0))))))
+unfolding scaled rowValue rootFrom rootOf Dw Ds Dr Dss Kw Ks Kr Aw As Ar Bw Bs rowsAt rootAt surface K0 A B bulk mass net gain density shown bulkOf shownOf shownAt
+needles d k c j = (refl, (refl, (refl, (refl, (refl, refl)))))
 
 abbrev no : Channel
 no = Channel.Refused Refusal.Temperature
 
--- both ways; refused on the left, on the right, on both
-pub needles :
-    (p q : Point) →
-    (needleOf (fresh p) (sea q) ≡ Needle.Value (pos 27_708)) × ((needleOf (sea p) (fresh q) ≡ Needle.Value (neg 27_708))
-    × ((needleOf no (sea q) ≡ Needle.Refused 104) × ((needleOf (sea p) no ≡ Needle.Refused 204)
-    × (needleOf (Channel.Refused Refusal.Missing) no ≡ Needle.Refused 101))))
-needles p q = (refl, (refl, (refl, (refl, refl))))
+-- refused on the left, on the right, on both
+pub no-needles :
+    (p : Point) (d k : ℕ) →
+    (needleOf no (Channel.Accepted p d k) ≡ Needle.Refused 104) × ((needleOf (Channel.Accepted p d k) no ≡ Needle.Refused 204)
+    × (needleOf (Channel.Refused Refusal.Missing) no ≡ Needle.Refused 101))
+no-needles p d k = (refl, (refl, refl))

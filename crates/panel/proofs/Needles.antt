@@ -1,18 +1,33 @@
--- The needle: swapping two accepted channels turns its sign and keeps its size, it has a value exactly if both are accepted, and each
--- channel depends on its own reading only. Assumes nothing.
-use Prim.Native.Nat.{ℕ}
-use mathlib.Core.Path.{_≡_, refl, ap}
+-- The needle: swapping two accepted channels turns its sign and keeps its size, it has a value exactly if both are accepted, it is 0 for one water
+-- at two depths and the difference of what is shown at one depth, and each channel depends on its own reading only. Assumes nothing.
+use Prim.Native.Nat.{ℕ, _≤_}
+use mathlib.Core.Path.{_≡_, refl, sym, ap}
 use native.Mathlib.Omega.{arith}
 use lib.IntN.{ℤ, pos, negℤ, natAbs, _-ℤ_}
+use Rattle.whole.specs.Arith.{plus}
 use Rattle.whole.proofs.Ints.{same, size-is, sub-is, neg-plus, neg-minus}
 use Rattle.readings.specs.declared.Point.{Point}
 use Rattle.readings.specs.declared.Entry.{Entry}
 use Rattle.channels.specs.declared.Channel.{Channel}
 use Rattle.channels.specs.declared.Needle.{Needle}
-use Rattle.panel.specs.Panel.{needleOf, comparisonOf}
+use Rattle.panel.specs.Panel.{channelOf, common, shownUnder, needleOf, comparisonOf}
+use Rattle.panel.proofs.Sizes.{accepted-shows}
 
 turned : (a b : ℕ) → pos a -ℤ pos b ≡ negℤ (pos b -ℤ pos a)
 turned a b = let z = pos b -ℤ pos a in same (pos a -ℤ pos b) (negℤ z) (omega (arith, sub-is (pos a) (pos b), sub-is (pos b) (pos a), neg-plus z, neg-minus z))
+
+-- the pressure in common: no less than either, one of the two, and the same either way
+pub common-least : (p q : Point) → (plus (p .pi) ≤ common p q) × (plus (q .pi) ≤ common p q)
+common-least p q = (omega arith, omega arith)
+
+pub common-most : (p q : Point) (n : ℕ) → plus (p .pi) ≤ n → plus (q .pi) ≤ n → common p q ≤ n
+common-most p q n h g = omega arith
+
+pub common-either : (p q : Point) → common q p ≡ common p q
+common-either p q = omega arith
+
+common-level : (p q : Point) → p .pi ≡ q .pi → common p q ≡ plus (p .pi)
+common-level p q h = let e : plus (q .pi) ≡ plus (p .pi) = rw (h) in omega arith
 
 taken : {y z : ℤ} → Needle.Value y ≡ Needle.Value z → y ≡ z
 taken e = cc
@@ -20,9 +35,10 @@ taken e = cc
 never : {z : ℤ} {n : ℕ} → Needle.Refused n ≡ Needle.Value z → ⊥
 never e = let x : _≡_ {A = ℕ} 0 1 = cc in omega arith
 
--- swapped: the sign turns
+-- swapped: the sign turns. The pressure that both are put under is the same, whichever stands left
 pub swapped : (l r : Channel) (z : ℤ) → needleOf l r ≡ Needle.Value z → needleOf r l ≡ Needle.Value (negℤ z)
-swapped (Channel.Accepted p d k) (Channel.Accepted q c j) z e = ap Needle.Value (rw (← taken e) (turned d c))
+swapped (Channel.Accepted p d k) (Channel.Accepted q c j) z e =
+    ap Needle.Value (rw (← taken e, common-either p q) (turned (shownUnder (common p q) p) (shownUnder (common p q) q)))
 swapped (Channel.Accepted p d k) (Channel.Refused s) z e = absurd (never e)
 swapped (Channel.Refused s) r z e = absurd (never e)
 
@@ -46,6 +62,25 @@ value-accepted (Channel.Accepted p d k) (Channel.Accepted q c j) z e =
     record { left-at = p; left-density = d; left-bulk = k; left-is = refl; right-at = q; right-density = c; right-bulk = j; right-is = refl }
 value-accepted (Channel.Accepted p d k) (Channel.Refused s) z e = absurd (never e)
 value-accepted (Channel.Refused s) r z e = absurd (never e)
+
+-- ---- what the hatchery asks
+-- the same water at any two depths: a needle of 0
+nought : (n : ℕ) → pos n -ℤ pos n ≡ pos 0
+nought n = same (pos n -ℤ pos n) (pos 0) (omega (arith, sub-is (pos n) (pos n)))
+
+pub same-water :
+    (l r : Channel) (p q : Point) (d k c j : ℕ) → l ≡ Channel.Accepted p d k → r ≡ Channel.Accepted q c j →
+    p .sigma ≡ q .sigma → p .tau ≡ q .tau → needleOf l r ≡ Needle.Value (pos 0)
+same-water l r p q d k c j e f s t = rw (e, f, s, t) (ap Needle.Value (nought (shownUnder (common p q) q)))
+
+-- at equal pressures: the difference of the densities that the two channels show
+pub level :
+    (l r : Entry) (p q : Point) (d k c j : ℕ) → channelOf l ≡ Channel.Accepted p d k → channelOf r ≡ Channel.Accepted q c j →
+    p .pi ≡ q .pi → needleOf (channelOf l) (channelOf r) ≡ Needle.Value (pos c -ℤ pos d)
+level l r p q d k c j e f h =
+    let a : shownUnder (common p q) p ≡ d = rw (common-level p q h) (sym (accepted-shows l p d k e .density-is)) in
+    let b : shownUnder (common p q) q ≡ c = rw (common-level p q h, h) (sym (accepted-shows r q c j f .density-is)) in
+    rw (e, f, a, b)
 
 -- ---- each channel depends on its own reading only: whatever stands in the other one
 pub left-own : (l r r′ : Entry) → (comparisonOf l r) .left ≡ (comparisonOf l r′) .left

@@ -13,7 +13,9 @@ use Rattle.readings.specs.Check.{placedOf, checkedOf}
 use Rattle.readings.specs.declared.Report.{Report}
 use Rattle.readings.specs.declared.Entry.{Entry}
 use Rattle.channels.specs.declared.Channel.{Channel}
-use Rattle.panel.specs.Panel.{wateredOf, channelOf}
+use Rattle.channels.specs.declared.Needle.{Needle}
+use Rattle.panel.specs.Panel.{wateredOf, channelOf, needleOf}
+use Rattle.panel.proofs.Needles.{level}
 
 -- salinity 0 and 35, both at the surface and at 5 °C
 abbrev pub fresh : Entry
@@ -33,3 +35,9 @@ salt-is = refl
 pub nothing-is : channelOf (Entry.Reading Report.Missing) ≡ Channel.Refused Refusal.Missing
 unfolding channelOf checkedOf
 nothing-is = refl
+
+-- at one pressure their needle is the difference of the two densities
+pub needle-is : needleOf (channelOf fresh) (channelOf salt) ≡ Needle.Value (pos 27_708)
+needle-is =
+    level fresh salt (record { sigma = pos 0; tau = pos 5_000; pi = pos 0 }) (record { sigma = pos 35_000; tau = pos 5_000; pi = pos 0 }) 999_967 2_033_780 1_027_675 2_218_593
+    fresh-is salt-is refl

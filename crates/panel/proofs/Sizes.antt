@@ -1,9 +1,11 @@
 -- What an accepted channel shows lies on the grid's numbers: it is small, and the recorder's float stands for it alone. Assumes nothing.
-use Prim.Native.Nat.{ℕ, _<_}
+use Prim.Native.Nat.{ℕ, _+_, _≤_, _<_}
 use mathlib.Core.Path.{_≡_, subst}
 use native.Mathlib.Omega.{arith}
 use lib.Dec.{lit<}
-use lib.IntN.{pos}
+use lib.IntN.{ℤ, pos, negsuc, natAbs, _-ℤ_}
+use Rattle.whole.specs.Arith.{plus, minus}
+use Rattle.whole.proofs.Ints.{sub-is}
 use Rattle.floats.specs.Grid.{gridNo}
 use Rattle.floats.specs.Recorder.{recorderOf}
 use Rattle.floats.proofs.Quotient.{recorder-back}
@@ -14,10 +16,13 @@ use Rattle.readings.specs.declared.Report.{Report}
 use Rattle.readings.specs.declared.Point.{Point}
 use Rattle.readings.proofs.Reasons.{Reason, missing, not-finite, salinity, temperature, pressure}
 use Rattle.readings.proofs.Answers as reading
-use Rattle.sea.proofs.Answers.{OnTable, Shown, known-is-on-table, known-shows}
+use Rattle.sea.specs.Sizes.{OnTable}
+use Rattle.sea.proofs.Answers.{Shown, known-on-table, known-is-on-table, known-shows}
+use Rattle.sea.proofs.Grid.{natural, lies-natural}
 use Rattle.readings.specs.declared.Entry.{Entry}
 use Rattle.channels.specs.declared.Channel.{Channel}
-use Rattle.panel.specs.Panel.{channelOf}
+use Rattle.channels.specs.declared.Needle.{Needle}
+use Rattle.panel.specs.Panel.{channelOf, common, shownUnder, needleOf}
 use Rattle.panel.proofs.Answers.{Case, accepted, refused, no-record, case-of}
 
 pub accepted-shows : (e : Entry) (p : Point) (d k : ℕ) → channelOf e ≡ Channel.Accepted p d k → Shown (p .sigma) (p .tau) (p .pi) d k
@@ -60,3 +65,36 @@ shown-small e = by-case (case-of e)
 -- put back on the grid of 0.001, the recorder's float gives the shown number
 pub recorded-back : (e : Entry) (p : Point) (d k : ℕ) → channelOf e ≡ Channel.Accepted p d k → gridNo 1000 (recorderOf d) ≡ pos d
 recorded-back e p d k h = recorder-back d (let s = accepted-shows e p d k h in omega (arith, s .density-high))
+
+-- ---- so is a needle: below 200,000 either way, or a number of three digits
+abbrev pub SmallNeedle : Needle → Type 0
+SmallNeedle (Needle.Value z) = natAbs z < 200_000
+SmallNeedle (Needle.Refused n) = n < 1_000
+
+-- a point's water under any pressure of the grid
+pub under-shows : (p : Point) → OnTable (p .sigma) (p .tau) (p .pi) → (π : ℕ) → π ≤ 100_000 → (900_000 < shownUnder π p) × (shownUnder π p ≤ 1_100_000)
+under-shows p t π h =
+    let u : OnTable (p .sigma) (p .tau) (pos π) = record { salinity = t .salinity; temperature = t .temperature; pressure = lies-natural h } in
+    let s = known-shows (p .sigma) (p .tau) (pos π) (known-on-table (p .sigma) (p .tau) (pos π) u) in
+    (s .density-low, s .density-high)
+
+difference-small : (a b : ℕ) → (900_000 < a) × (a ≤ 1_100_000) → (900_000 < b) × (b ≤ 1_100_000) → natAbs (pos b -ℤ pos a) < 200_000
+difference-small a b h g = go (pos b -ℤ pos a) (sub-is (pos b) (pos a))
+  where
+    go : (z : ℤ) → plus z + (0 + a) ≡ minus z + (b + 0) → natAbs z < 200_000
+    go (pos n) e = omega (arith, h .0, g .1)
+    go (negsuc n) e = omega (arith, h .1, g .0)
+
+needle-case : {e f : Entry} {c d : Channel} → Case e c → Case f d → SmallNeedle (needleOf c d)
+needle-case (refused report r c) w = omega (arith, reason-small (reading.refused-only report r c))
+needle-case (no-record u) w = omega (arith, unread-small u)
+needle-case (accepted report p d k c w) (refused report′ r c′) = omega (arith, reason-small (reading.refused-only report′ r c′))
+needle-case (accepted report p d k c w) (no-record u) = omega (arith, unread-small u)
+needle-case (accepted report p d k c w) (accepted report′ q d′ k′ c′ w′) =
+    let s = known-is-on-table (p .sigma) (p .tau) (p .pi) w in
+    let t = known-is-on-table (q .sigma) (q .tau) (q .pi) w′ in
+    let h : common p q ≤ 100_000 = omega (arith, natural (s .pressure) .most, natural (t .pressure) .most) in
+    difference-small (shownUnder (common p q) p) (shownUnder (common p q) q) (under-shows p s (common p q) h) (under-shows q t (common p q) h)
+
+pub needle-small : (l r : Entry) → SmallNeedle (needleOf (channelOf l) (channelOf r))
+needle-small l r = needle-case (case-of l) (case-of r)

@@ -1,22 +1,99 @@
-// A channel from what stands in it, and the needle from two channels.
+// A channel from what stands in it, and the needle from two of them.
 ghost use mathlib.Core.Path.{_≡_};
-ghost use Rattle.panel.specs.Panel.{wateredOf, channelOf, needleOf, comparisonOf};
+ghost use lib.IntN.{pos};
+ghost use Rattle.panel.specs.Panel.{entered, channelOf, comparisonOf};
+ghost use Rattle.panel.specs.Sides.{Placed, pressureOf, commonOf, besideOf, needleBetween};
 use channels::Channel;
 use channels::Comparison;
 use channels::Needle;
 use readings::Checked;
 use readings::Entry;
-use readings::Point;
-use waters::Water;
 
-// The water at a point of the grid.
-fn watered(at: Point) -> Channel
-    ensures { λ r. ⌜ r ≡ wateredOf at ⌝ }
+// A channel's answer, and the density of its water under the pressure that it has in common with the other one: what the needle is made of.
+pub struct Side {
+    pub channel: Channel,
+    pub under: u32,
+}
+
+// What becomes of what stands in a channel: its grid numbers, or its refusal.
+pub fn entered(entry: Entry) -> Checked
+    ensures { λ r. ⌜ r ≡ entered entry ⌝ }
 {
-    let water = sea::water_at(at.sigma, at.tau, at.pi);
-    match water {
-        Water::Known { density, bulk } => Channel::Accepted { at, density, bulk },
-        Water::Refused(why) => Channel::Refused(why),
+    match entry {
+        Entry::Reading(report) => readings::check(report),
+        Entry::Refused(why) => Checked::Refused(why.refusal()),
+    }
+}
+
+// Its pressure; a refused one has none, and does not count.
+fn pressure(c: Checked) -> i64
+    requires { ⌜ Placed c ⌝ }
+    ensures { λ r. ⌜ r ≡ pos (pressureOf c) ⌝ }
+{
+    match c {
+        Checked::Taken(at) => at.pi,
+        Checked::Refused(_) => 0,
+    }
+}
+
+// The pressure that two have in common: the greater.
+fn common(a: Checked, b: Checked) -> i64
+    requires { ⌜ Placed a ⌝ ∗ ⌜ Placed b ⌝ }
+    ensures { λ r. ⌜ r ≡ pos (commonOf a b) ⌝ }
+{
+    let p = pressure(a);
+    let q = pressure(b);
+    if p < q {
+        return q;
+    }
+    p
+}
+
+// One side of a pair, beside the other, of which the pressure alone is looked at. It asks for points of the grid, which `entered` gives; the calls
+// for everybody else are `answer` and `paired`, which ask for nothing.
+pub fn beside(one: Checked, other: Checked) -> Side
+    requires { ⌜ Placed one ⌝ ∗ ⌜ Placed other ⌝ }
+    ensures { λ r. ⌜ r ≡ besideOf one other ⌝ }
+{
+    match one {
+        Checked::Taken(at) => {
+            let own = sea::sounding_at(at.sigma, at.tau, at.pi, common(one, other));
+            Side {
+                channel: Channel::Accepted {
+                    at,
+                    density: own.density,
+                    bulk: own.bulk,
+                },
+                under: own.under,
+            }
+        }
+        Checked::Refused(why) => Side {
+            channel: Channel::Refused(why),
+            under: 0,
+        },
+    }
+}
+
+// The needle of two sides.
+pub fn needle(left: Side, right: Side) -> Needle
+    ensures { λ r. ⌜ r ≡ needleBetween left right ⌝ }
+{
+    let l = left.channel;
+    let r = right.channel;
+    match l {
+        Channel::Refused(why) => Needle::Refused(100 + why.number()),
+        Channel::Accepted {
+            at: _,
+            density: _,
+            bulk: _,
+        } => match r {
+            Channel::Refused(why) => Needle::Refused(200 + why.number()),
+            Channel::Accepted {
+                at: _,
+                density: _,
+                bulk: _,
+            } => Needle::Value(right.under as i64 - left.under as i64),
+        },
     }
 }
 
@@ -24,45 +101,24 @@ fn watered(at: Point) -> Channel
 pub fn answer(entry: Entry) -> Channel
     ensures { λ r. ⌜ r ≡ channelOf entry ⌝ }
 {
-    match entry {
-        Entry::Refused(why) => Channel::Refused(why.refusal()),
-        Entry::Reading(report) => match readings::check(report) {
-            Checked::Refused(why) => Channel::Refused(why),
-            Checked::Taken(at) => watered(at),
-        },
-    }
-}
-
-// The needle of two channels.
-pub fn compare(left: Channel, right: Channel) -> Needle
-    ensures { λ r. ⌜ r ≡ needleOf left right ⌝ }
-{
-    match left {
-        Channel::Refused(why) => Needle::Refused(100 + why.number()),
-        Channel::Accepted {
-            at: _,
-            density: l,
-            bulk: _,
-        } => match right {
-            Channel::Refused(why) => Needle::Refused(200 + why.number()),
-            Channel::Accepted {
-                at: _,
-                density: r,
-                bulk: _,
-            } => Needle::Value(r as i64 - l as i64),
-        },
-    }
+    let c = entered(entry);
+    let alone = beside(c, c);
+    alone.channel
 }
 
 // Both channels, each from what stands in it alone, and their needle.
 pub fn paired(left: Entry, right: Entry) -> Comparison
     ensures { λ r. ⌜ r ≡ comparisonOf left right ⌝ }
 {
-    let l = answer(left);
-    let r = answer(right);
+    let l = entered(left);
+    let r = entered(right);
+    let a = beside(l, r);
+    let b = beside(r, l);
+    let first = a.channel;
+    let second = b.channel;
     Comparison {
-        left: l,
-        right: r,
-        needle: compare(l, r),
+        left: first,
+        right: second,
+        needle: needle(a, b),
     }
 }

@@ -1,11 +1,12 @@
--- Demand 3 of what a caller gets: each pledge once more, from the contracts of `panel::answer`, `panel::compare` and `panel::paired` themselves.
+-- Demand 3 of what a caller gets: each pledge once more, from the contracts of `panel::answer` and `panel::paired` themselves, and what
+-- the hatchery asks of a needle.
 -- `Learnt` is a contract as the checker reads it off the source: it says all that a caller is told of the arguments a, the answer and the
 -- state after the call. A dropped or weakened clause breaks these laws. Assumes nothing.
 use Prim.Native.Nat.{ℕ, _≤_, _<_}
-use mathlib.Core.Path.{_≡_, sym, ap, ap₂, _∙_}
+use mathlib.Core.Path.{_≡_, sym, ap, _∙_}
 use mathlib.Core.Option.{some}
 use contract.Lifetimes
-use lib.IntN.{ℤ, pos}
+use lib.IntN.{ℤ, pos, negℤ, _-ℤ_}
 use lib.Signed.{_≤ℤ_}
 use Rattle.whole.specs.Arith.{neg, plus}
 use Rattle.whole.specs.Fraction.{Frac, over, _≤F_, _⊖_}
@@ -18,12 +19,12 @@ use Rattle.readings.specs.Check.{givenOf}
 use Rattle.channels.specs.declared.Channel.{Channel}
 use Rattle.channels.specs.declared.Needle.{Needle}
 use Rattle.channels.specs.declared.Comparison.{Comparison}
-use Rattle.panel.specs.Panel.{channelOf, needleOf, comparisonOf}
+use Rattle.panel.specs.Panel.{channelOf, common, needleOf, comparisonOf}
 use Rattle.panel.proofs.answer.Reads as answer
-use Rattle.panel.proofs.compare.Reads as compare
 use Rattle.panel.proofs.paired.Reads as paired
+use Rattle.panel.proofs.Needles as panel
 use Rattle.promises.specs.Promises.{Rooted, Within, Close}
-use Rattle.pledges.specs.Pledges.{formulaAt, Shows, Sides}
+use Rattle.pledges.specs.Pledges.{formulaUnder, formulaAt, Shows, Sides}
 use Rattle.pledges.proofs.Pledges as pledge
 
 -- ---- one call of `answer`, whose answer r is an accepted channel
@@ -40,69 +41,64 @@ module _ (κs : Lifetimes.Lfts 0) (a : _) (r : _) (s : _) (told : answer.Learnt 
   pub shows : (report : Report) (x : Reading) → a .0 ≡ Entry.Reading report → givenOf report ≡ some x → Shows x d
   shows report x e g = record { report = report; reading-is = g; point = p; bulk = k; channel-is = is ∙ told ∙ ap channelOf e }
 
--- ---- two calls of `answer`, and one of `compare` on what they answered
-module _
-    (κs κs′ κs″ : Lifetimes.Lfts 0) (a b c : _) (l r n : _) (s t u : _)
-    (left : answer.Learnt κs a l s) (right : answer.Learnt κs′ b r t) (needle : compare.Learnt κs″ c n u) (from-left : c .0 ≡ l) (from-right : c .1 .0 ≡ r)
-    (p q : Point) (d k d′ k′ : ℕ) (l-is : Channel.Accepted p d k ≡ l) (r-is : Channel.Accepted q d′ k′ ≡ r) (z : ℤ) (n-is : Needle.Value z ≡ n)
-    (x y : Frac) (v : Rooted (plus (p .sigma)) x) (w : Rooted (plus (q .sigma)) y) where
-  sides : Sides p q x y z
-  sides =
-      record {
-        left = a .0;
-        right = b .0;
-        left-density = d;
-        left-bulk = k;
-        right-density = d′;
-        right-bulk = k′;
-        left-is = l-is ∙ left;
-        right-is = r-is ∙ right;
-        left-root = v;
-        right-root = w;
-        needle-is = n-is ∙ needle ∙ ap₂ needleOf (from-left ∙ left) (from-right ∙ right);
-      }
-
-  -- 5. a needle of 2 or more, either way, never names as heavier a water that the formula makes equal or lighter
-  pub right-heavier : pos 2 ≤ℤ z → ¬ (formulaAt q y ≤F formulaAt p x)
-  right-heavier = pledge.right-heavier p q x y z sides
-
-  pub left-heavier : z ≤ℤ neg 2 → ¬ (formulaAt p x ≤F formulaAt q y)
-  left-heavier = pledge.left-heavier p q x y z sides
-
-  -- 6. a needle is within 0.0012 kg/m³ of the formula's difference
-  pub needle-within : Within (over 12 10_000) z (formulaAt q y ⊖ formulaAt p x)
-  needle-within = pledge.needle-within p q x y z sides
-
--- ---- one call of `paired`
+-- ---- one call of `paired`, whose answer has a needle of z
 module _
     (κs : Lifetimes.Lfts 0) (a : _) (r : _) (s : _) (told : paired.Learnt κs a r s)
-    (p q : Point) (d k d′ k′ : ℕ) (l-is : Channel.Accepted p d k ≡ r .left) (r-is : Channel.Accepted q d′ k′ ≡ r .right) (z : ℤ) (n-is : Needle.Value z ≡ r .needle)
-    (x y : Frac) (v : Rooted (plus (p .sigma)) x) (w : Rooted (plus (q .sigma)) y) where
-  paired-sides : Sides p q x y z
+    (p q : Point) (d k d′ k′ : ℕ) (l-is : Channel.Accepted p d k ≡ r .left) (r-is : Channel.Accepted q d′ k′ ≡ r .right) (z : ℤ) (n-is : Needle.Value z ≡ r .needle) where
+  left-is : Channel.Accepted p d k ≡ channelOf (a .0)
   unfolding comparisonOf
-  paired-sides =
-      record {
-        left = a .0;
-        right = a .1 .0;
-        left-density = d;
-        left-bulk = k;
-        right-density = d′;
-        right-bulk = k′;
-        left-is = l-is ∙ ap (λ (m : Comparison). m .left) told;
-        right-is = r-is ∙ ap (λ (m : Comparison). m .right) told;
-        left-root = v;
-        right-root = w;
-        needle-is = n-is ∙ ap (λ (m : Comparison). m .needle) told;
-      }
+  left-is = l-is ∙ ap (λ (m : Comparison). m .left) told
 
-  pub paired-right-heavier : pos 2 ≤ℤ z → ¬ (formulaAt q y ≤F formulaAt p x)
-  paired-right-heavier = pledge.right-heavier p q x y z paired-sides
+  right-is : Channel.Accepted q d′ k′ ≡ channelOf (a .1 .0)
+  unfolding comparisonOf
+  right-is = r-is ∙ ap (λ (m : Comparison). m .right) told
 
-  pub paired-left-heavier : z ≤ℤ neg 2 → ¬ (formulaAt p x ≤F formulaAt q y)
-  paired-left-heavier = pledge.left-heavier p q x y z paired-sides
+  needle-is : Needle.Value z ≡ needleOf (channelOf (a .0)) (channelOf (a .1 .0))
+  unfolding comparisonOf
+  needle-is = n-is ∙ ap (λ (m : Comparison). m .needle) told
 
-  pub paired-needle-within : Within (over 12 10_000) z (formulaAt q y ⊖ formulaAt p x)
-  paired-needle-within = pledge.needle-within p q x y z paired-sides
+  -- what the formula says, with a fraction in place of each root
+  module _ (x y : Frac) (v : Rooted (plus (p .sigma)) x) (w : Rooted (plus (q .sigma)) y) where
+    sides : Sides p q x y z
+    sides =
+        record {
+          left = a .0;
+          right = a .1 .0;
+          left-density = d;
+          left-bulk = k;
+          right-density = d′;
+          right-bulk = k′;
+          left-is = left-is;
+          right-is = right-is;
+          left-root = v;
+          right-root = w;
+          needle-is = needle-is;
+        }
+
+    -- 5. a needle of 2 or more, either way, never names as heavier a water that the formula, with both under the greater of their pressures, makes
+    -- equal or lighter
+    pub right-heavier : pos 2 ≤ℤ z → ¬ (formulaUnder (common p q) q y ≤F formulaUnder (common p q) p x)
+    right-heavier = pledge.right-heavier p q x y z sides
+
+    pub left-heavier : z ≤ℤ neg 2 → ¬ (formulaUnder (common p q) p x ≤F formulaUnder (common p q) q y)
+    left-heavier = pledge.left-heavier p q x y z sides
+
+    -- 6. a needle is within 0.0012 kg/m³ of the formula's difference there
+    pub needle-within : Within (over 12 10_000) z (formulaUnder (common p q) q y ⊖ formulaUnder (common p q) p x)
+    needle-within = pledge.needle-within p q x y z sides
+
+  -- the same water at any two depths has a needle of 0
+  pub same-water : p .sigma ≡ q .sigma → p .tau ≡ q .tau → z ≡ pos 0
+  same-water s t = pledge.taken (needle-is ∙ panel.same-water (channelOf (a .0)) (channelOf (a .1 .0)) p q d k d′ k′ (sym left-is) (sym right-is) s t)
+
+  -- at equal pressures the needle is the difference of the densities beside it
+  pub level : p .pi ≡ q .pi → z ≡ pos d′ -ℤ pos d
+  level e = pledge.taken (needle-is ∙ panel.level (a .0) (a .1 .0) p q d k d′ k′ (sym left-is) (sym right-is) e)
+
+  -- the same two the other way round: the sign turns
+  pub swapped : (κs′ : Lifetimes.Lfts 0) (r′ : _) (s′ : _) → paired.Learnt κs′ (a .1 .0, (a .0, a .1 .1)) r′ s′ → r′ .needle ≡ Needle.Value (negℤ z)
+  unfolding comparisonOf
+  swapped κs′ r′ s′ told′ = ap (λ (m : Comparison). m .needle) told′ ∙ panel.swapped (channelOf (a .0)) (channelOf (a .1 .0)) z (sym needle-is)
 
 -- ---- two calls of `answer` on readings x and y
 module _

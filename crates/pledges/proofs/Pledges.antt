@@ -20,7 +20,7 @@ use Rattle.readings.proofs.Reasons.{Gridded}
 use Rattle.readings.specs.declared.Entry.{Entry}
 use Rattle.channels.specs.declared.Channel.{Channel}
 use Rattle.channels.specs.declared.Needle.{Needle}
-use Rattle.panel.specs.Panel.{channelOf}
+use Rattle.panel.specs.Panel.{channelOf, common, shownUnder, needleOf}
 use Rattle.panel.proofs.Answers.{accepted-gridded}
 use Rattle.panel.proofs.Sizes.{accepted-shows, accepted-table}
 use Rattle.promises.specs.Promises.{OnGrid, Sample, Close}
@@ -93,7 +93,7 @@ deeper x y d c a b s t p =
     (number-order 100 (x .pressure) (y .pressure) _ _ (g .pi-is) (h .pi-is) p)
 
 -- ---- the needle
-taken : {y z : ℤ} → Needle.Value y ≡ Needle.Value z → y ≡ z
+pub taken : {y z : ℤ} → Needle.Value y ≡ Needle.Value z → y ≡ z
 taken e = cc
 
 module _ (p q : Point) (x y : Frac) (z : ℤ) (r : Sides p q x y z) where
@@ -103,11 +103,9 @@ module _ (p q : Point) (x y : Frac) (z : ℤ) (r : Sides p q x y z) where
   right : Sample
   right = record { σ = plus (q .sigma); τ = q .tau; π = plus (q .pi); x = y; on-grid = on-grid (r .right) q (r .right-density) (r .right-bulk) (r .right-is); rooted = r .right-root }
 
-  -- the needle is the difference of the shown densities
-  needle-is : z ≡ pos (shownAt (plus (q .sigma)) (q .tau) (plus (q .pi))) -ℤ pos (shownAt (plus (p .sigma)) (p .tau) (plus (p .pi)))
-  needle-is =
-      taken (r .needle-is ∙ rw (← r .left-is, ← r .right-is))
-      ∙ ap₂ (λ (c d : ℕ). pos c -ℤ pos d) (shows (r .right) q (r .right-density) (r .right-bulk) (r .right-is) .density-is) (shows (r .left) p (r .left-density) (r .left-bulk) (r .left-is) .density-is)
+  -- the needle is the difference of the shown densities under the pressure in common
+  needle-is : z ≡ pos (shownUnder (common p q) q) -ℤ pos (shownUnder (common p q) p)
+  needle-is = taken (r .needle-is ∙ ap₂ needleOf (sym (r .left-is)) (sym (r .right-is)))
 
 pub right-heavier : NeedleToRight
 unfolding left right

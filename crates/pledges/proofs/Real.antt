@@ -1,7 +1,7 @@
 -- Nothing here is empty: what the pledges are about holds of real readings, the two waters of SPEC's example and one of them at 1,000
 -- bar. Assumes nothing.
 use Prim.Native.Nat.{_≤_}
-use mathlib.Core.Path.{_≡_, refl, sym}
+use mathlib.Core.Path.{_≡_, refl, sym, ap₂, _∙_}
 use lib.IntN.{pos}
 use lib.Ieee.{Float, ofBits}
 use Rattle.whole.specs.Arith.{scaled, rowValue, rootFrom, rootOf}
@@ -18,7 +18,7 @@ use Rattle.readings.specs.Check.{deepOf, surfaceOf, placedOf, checkedOf}
 use Rattle.channels.specs.declared.Channel.{Channel}
 use Rattle.channels.specs.declared.Needle.{Needle}
 use Rattle.panel.specs.Panel.{wateredOf, channelOf, needleOf}
-use Rattle.panel.proofs.Samples.{fresh, salt, fresh-is, salt-is}
+use Rattle.panel.proofs.Samples.{fresh, salt, fresh-is, salt-is, needle-is}
 use Rattle.promises.proofs.Grid.{rooted}
 use Rattle.pledges.specs.Pledges.{Shows, Sides}
 use Rattle.pledges.proofs.Pledges.{saltier, deeper}
@@ -29,6 +29,10 @@ fresh-at = record { sigma = pos 0; tau = pos 5_000; pi = pos 0 }
 
 abbrev salt-at : Point
 salt-at = record { sigma = pos 35_000; tau = pos 5_000; pi = pos 0 }
+
+-- the second at 1,000 bar
+abbrev deep-at : Point
+deep-at = record { sigma = pos 35_000; tau = pos 5_000; pi = pos 100_000 }
 
 pub shows-salt : Shows (surfaceOf (floatOf 0x00 0x00 0x0C 0x42) (floatOf 0x00 0x00 0xA0 0x40)) 1_027_675
 shows-salt =
@@ -53,11 +57,8 @@ sides-of-both =
       right-is = sym salt-is;
       left-root = rooted 0;
       right-root = rooted 35_000;
-      needle-is = needle-is;
+      needle-is = sym needle-is;
     }
-  where
-    needle-is : Needle.Value (pos 27_708) ≡ needleOf (channelOf fresh) (channelOf salt)
-    needle-is = rw (fresh-is, salt-is)
 
 -- ---- saltier and deeper: the floats' order is met, and minus zero has the value of zero
 abbrev f0 : Float
@@ -75,7 +76,7 @@ f1000 = floatOf 0x00 0x00 0x7A 0x44
 pub shows-fresh : Shows (surfaceOf f0 f5) 999_967
 shows-fresh = record { report = Report.Surface f0 f5; reading-is = refl; point = fresh-at; bulk = 2_033_780; channel-is = sym fresh-is }
 
-pub deep-is : channelOf (Entry.Reading (Report.Deep f35 f5 f1000)) ≡ Channel.Accepted (record { sigma = pos 35_000; tau = pos 5_000; pi = pos 100_000 }) 1_069_489 2_557_749
+pub deep-is : channelOf (Entry.Reading (Report.Deep f35 f5 f1000)) ≡ Channel.Accepted deep-at 1_069_489 2_557_749
 unfolding ofBits channelOf checkedOf placedOf placeOf inside gridNo wateredOf waterOf rangeOf scaled rowValue rootFrom rootOf Dw Ds Dr Dss Kw Ks Kr Aw As Ar Bw Bs rowsAt rootAt surface K0 A B bulk hundredths mass net gain density shown bulkOf shownOf shownAt modulusAt
 deep-is = refl
 
@@ -84,9 +85,31 @@ shows-deep =
     record {
       report = Report.Deep f35 f5 f1000;
       reading-is = refl;
-      point = record { sigma = pos 35_000; tau = pos 5_000; pi = pos 100_000 };
+      point = deep-at;
       bulk = 2_557_749;
       channel-is = sym deep-is;
+    }
+
+-- fresh water at the surface beside salt water at 1,000 bar: the fresh water's density there is 1,044,128, so that the needle is 25,361 and not the
+-- 69,522 between the two that are shown
+deep-needle : needleOf (Channel.Accepted fresh-at 999_967 2_033_780) (Channel.Accepted deep-at 1_069_489 2_557_749) ≡ Needle.Value (pos 25_361)
+unfolding scaled rowValue rootFrom rootOf Dw Ds Dr Dss Kw Ks Kr Aw As Ar Bw Bs rowsAt rootAt surface K0 A B bulk mass net gain density shown bulkOf shownOf shownAt
+deep-needle = refl
+
+pub sides-at-depths : Sides fresh-at deep-at (over (rootAt 0) 100_000) (over (rootAt 35_000) 100_000) (pos 25_361)
+sides-at-depths =
+    record {
+      left = fresh;
+      right = Entry.Reading (Report.Deep f35 f5 f1000);
+      left-density = 999_967;
+      left-bulk = 2_033_780;
+      right-density = 1_069_489;
+      right-bulk = 2_557_749;
+      left-is = sym fresh-is;
+      right-is = sym deep-is;
+      left-root = rooted 0;
+      right-root = rooted 35_000;
+      needle-is = sym (ap₂ needleOf fresh-is deep-is ∙ deep-needle);
     }
 
 pub same-5 : Same f5 f5

@@ -1,5 +1,5 @@
--- Demand 3 of what the panel's calls return: of a channel that `panel::answer` gives for what stands in it, and of the needle that `panel::compare`
--- or `panel::paired` gives. Proved in proofs/Pledges, and in proofs/Calls once more from the contracts of these calls.
+-- Demand 3 of what the panel's calls return: of a channel that `panel::answer` gives for what stands in it, and of the needle that `panel::paired`
+-- gives. Proved in proofs/Pledges, and in proofs/Calls once more from the contracts of these calls.
 use Prim.Native.Nat.{ℕ, _≤_, _<_}
 use mathlib.Core.Path.{_≡_}
 use mathlib.Core.Option.{some}
@@ -15,13 +15,16 @@ use Rattle.readings.specs.Check.{givenOf}
 use Rattle.readings.specs.declared.Entry.{Entry}
 use Rattle.channels.specs.declared.Channel.{Channel}
 use Rattle.channels.specs.declared.Needle.{Needle}
-use Rattle.panel.specs.Panel.{channelOf, needleOf}
+use Rattle.panel.specs.Panel.{channelOf, common, needleOf}
 use Rattle.promises.specs.Formula.{densityF}
 use Rattle.promises.specs.Promises.{Rooted, Within, Close}
 
--- the formula's density at a point, with x in place of √v
+-- the formula's density of a point's water under a pressure, with x in place of √v; and at its own
+abbrev pub formulaUnder : ℕ → Point → Frac → Frac
+formulaUnder π p x = densityF (plus (p .sigma)) x (p .tau) π
+
 abbrev pub formulaAt : Point → Frac → Frac
-formulaAt p x = densityF (plus (p .sigma)) x (p .tau) (plus (p .pi))
+formulaAt p x = formulaUnder (plus (p .pi)) p x
 
 -- 1. a density that the panel shows is within 0.0006 kg/m³ of the formula's
 abbrev pub AnswerWithin : Type 0
@@ -65,13 +68,14 @@ pub record Sides (p q : Point) (x y : Frac) (z : ℤ) : Type 0 where
   pub right-root : Rooted (plus (q .sigma)) y
   pub needle-is : Needle.Value z ≡ needleOf (channelOf left) (channelOf right)
 
--- 5. a needle of 2 or more, either way, never names as heavier a water that the formula makes equal or lighter
+-- 5. a needle of 2 or more, either way, never names as heavier a water that the formula, with both under the greater of their pressures, makes equal
+-- or lighter
 abbrev pub NeedleToRight : Type 0
-NeedleToRight = (p q : Point) (x y : Frac) (z : ℤ) → Sides p q x y z → pos 2 ≤ℤ z → ¬ (formulaAt q y ≤F formulaAt p x)
+NeedleToRight = (p q : Point) (x y : Frac) (z : ℤ) → Sides p q x y z → pos 2 ≤ℤ z → ¬ (formulaUnder (common p q) q y ≤F formulaUnder (common p q) p x)
 
 abbrev pub NeedleToLeft : Type 0
-NeedleToLeft = (p q : Point) (x y : Frac) (z : ℤ) → Sides p q x y z → z ≤ℤ neg 2 → ¬ (formulaAt p x ≤F formulaAt q y)
+NeedleToLeft = (p q : Point) (x y : Frac) (z : ℤ) → Sides p q x y z → z ≤ℤ neg 2 → ¬ (formulaUnder (common p q) p x ≤F formulaUnder (common p q) q y)
 
--- 6. a needle is within 0.0012 kg/m³ of the formula's difference
+-- 6. a needle is within 0.0012 kg/m³ of the formula's difference there
 abbrev pub NeedleNear : Type 0
-NeedleNear = (p q : Point) (x y : Frac) (z : ℤ) → Sides p q x y z → Within (over 12 10_000) z (formulaAt q y ⊖ formulaAt p x)
+NeedleNear = (p q : Point) (x y : Frac) (z : ℤ) → Sides p q x y z → Within (over 12 10_000) z (formulaUnder (common p q) q y ⊖ formulaUnder (common p q) p x)

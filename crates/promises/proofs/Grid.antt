@@ -60,5 +60,6 @@ module _ {σ : ℕ} {τ : ℤ} {π : ℕ} (g : OnGrid σ τ π) where
   unfolding shownAt
   shown-at-near x v = shown-near (rowsAt τ) rows-lie τ (nears τ warmth) σ (rootAt σ) π (g .salt) (root-high σ (g .salt)) (g .deep) x (rooted-near σ x v)
 
-pub panel-near : (s : Sample) → Near 10_000 (formula s) (pos (10 * panel s)) 6 6
-panel-near s = shown-at-near (s .on-grid) (s .x) (s .rooted)
+-- a water under any pressure of the grid
+pub panel-near : (s : Sample) (π : ℕ) → π ≤ 100_000 → Near 10_000 (formula s π) (pos (10 * panel s π)) 6 6
+panel-near s π h = let g = s .on-grid in shown-at-near (record { salt = g .salt; cold = g .cold; warm = g .warm; deep = h }) (s .x) (s .rooted)

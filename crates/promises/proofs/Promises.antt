@@ -1,14 +1,15 @@
 -- Demand 3: each promise of specs/Promises, from the law that shows it; and the ranges that other rooms use. Assumes nothing.
-use Prim.Native.Nat.{ℕ, suc, _≤_, _<_}
+use Prim.Native.Nat.{ℕ, suc, _*_, _≤_, _<_}
 use native.Mathlib.Omega.{arith}
 use lib.IntN.{ℤ, pos}
 use lib.Signed.{_≤ℤ_}
 use Rattle.whole.specs.Arith.{neg}
 use Rattle.whole.specs.Fraction.{Frac, units, _≤F_, _⊕_}
 use Rattle.whole.proofs.Ints.{of-≤ℤ, sub-is}
+use Rattle.whole.proofs.Near.{Near}
 use Rattle.sea.specs.Recipe.{rowsAt, rootAt, shownOf, shownAt, modulusAt}
 use Rattle.promises.specs.Formula.{densityF}
-use Rattle.promises.specs.Promises.{OnGrid, Rooted, Within, panel, ShownWithin, StifferThanPressure, Saltier, Deeper, RightHeavier, LeftHeavier, NeedleWithin}
+use Rattle.promises.specs.Promises.{OnGrid, Rooted, Within, Sample, formula, panel, common, ShownWithin, StifferThanPressure, Saltier, Deeper, RightHeavier, LeftHeavier, NeedleWithin}
 use Rattle.promises.proofs.Rise.{rising}
 use Rattle.promises.proofs.Pressure.{pressure-rising}
 use Rattle.promises.proofs.Salt.{salt-step}
@@ -33,16 +34,31 @@ unfolding shownAt
 deeper σ τ π π′ g g′ more =
     omega (arith, pressure-rising (rowsAt τ) (rows-lie g) σ (rootAt σ) (g .salt) (root-high σ (g .salt)) π π′ (omega arith) (g′ .deep))
 
+-- two waters, under the pressure that they have in common, which is on the grid as their own are
+module _ (left right : Sample) where
+  deep : common left right ≤ 100_000
+  deep = omega (arith, left .on-grid .deep, right .on-grid .deep)
+
+  left-near : Near 10_000 (formula left (common left right)) (pos (10 * panel left (common left right))) 6 6
+  left-near = panel-near left (common left right) deep
+
+  right-near : Near 10_000 (formula right (common left right)) (pos (10 * panel right (common left right))) 6 6
+  right-near = panel-near right (common left right) deep
+
 pub right-heavier : RightHeavier
 right-heavier left right two =
-    heavier (panel left) (panel right) (panel-near left) (panel-near right) (omega (arith, of-≤ℤ _ _ two, sub-is (pos (panel right)) (pos (panel left))))
+    let l = panel left (common left right) in
+    let r = panel right (common left right) in
+    heavier l r (left-near left right) (right-near left right) (omega (arith, of-≤ℤ _ _ two, sub-is (pos r) (pos l)))
 
 pub left-heavier : LeftHeavier
 left-heavier left right two =
-    heavier (panel right) (panel left) (panel-near right) (panel-near left) (omega (arith, of-≤ℤ _ _ two, sub-is (pos (panel right)) (pos (panel left))))
+    let l = panel left (common left right) in
+    let r = panel right (common left right) in
+    heavier r l (right-near left right) (left-near left right) (omega (arith, of-≤ℤ _ _ two, sub-is (pos r) (pos l)))
 
 pub needle-within : NeedleWithin
-needle-within left right = difference-within (panel left) (panel right) (panel-near left) (panel-near right) (omega arith)
+needle-within left right = difference-within (panel left (common left right)) (panel right (common left right)) (left-near left right) (right-near left right) (omega arith)
 
 -- ---- what the words say: within means on both sides, and every number of the grid table is on the grid
 pub within-both : (e : Frac) (n : ℤ) (f : Frac) → Within e n f → (f ≤F units 1_000 n ⊕ e) × (units 1_000 n ≤F f ⊕ e)

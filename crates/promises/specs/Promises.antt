@@ -1,5 +1,5 @@
 -- Demand 3: what is promised of the shown densities and of the needle, in SPEC's words and numbers. Proved in proofs/Promises.
-use Prim.Native.Nat.{ℕ, _+_, _≤_, _<_}
+use Prim.Native.Nat.{ℕ, _+_, _≤_, _<_, max}
 use lib.IntN.{ℤ, pos, _-ℤ_}
 use lib.Signed.{_≤ℤ_}
 use Rattle.whole.specs.Arith.{neg}
@@ -39,16 +39,20 @@ pub record Sample : Type 0 where
   pub on-grid : OnGrid σ τ π
   pub rooted : Rooted σ x
 
--- its density by the formula, and the shown one
-abbrev pub formula : Sample → Frac
-formula s = densityF (s .σ) (s .x) (s .τ) (s .π)
+-- its density under a pressure, whatever its own is: by the formula, and the shown one
+abbrev pub formula : Sample → ℕ → Frac
+formula s π = densityF (s .σ) (s .x) (s .τ) π
 
-abbrev pub panel : Sample → ℕ
-panel s = shownAt (s .σ) (s .τ) (s .π)
+abbrev pub panel : Sample → ℕ → ℕ
+panel s π = shownAt (s .σ) (s .τ) π
 
--- shown density of the right, at its own pressure, minus that of the left, at its own
+-- the pressure that two waters have in common: the greater of their own
+abbrev pub common : Sample → Sample → ℕ
+common left right = max (left .π) (right .π)
+
+-- shown density of the right minus that of the left, both under the pressure that they have in common
 abbrev pub needle : Sample → Sample → ℤ
-needle left right = pos (panel right) -ℤ pos (panel left)
+needle left right = pos (panel right (common left right)) -ℤ pos (panel left (common left right))
 
 -- ---- the promises
 -- 1. the shown density is within 0.0006 kg/m³ of the formula's
@@ -67,13 +71,14 @@ Saltier = (σ σ′ : ℕ) (τ : ℤ) (π : ℕ) → OnGrid σ τ π → OnGrid 
 abbrev pub Deeper : Type 0
 Deeper = (σ : ℕ) (τ : ℤ) (π π′ : ℕ) → OnGrid σ τ π → OnGrid σ τ π′ → π ≤ π′ → shownAt σ τ π ≤ shownAt σ τ π′
 
--- 5. a needle of 2 or more, either way, never names as heavier a water that the formula makes equal or lighter
+-- 5. a needle of 2 or more, either way, never names as heavier a water that the formula, with both under the pressure in common, makes equal or
+-- lighter
 abbrev pub RightHeavier : Type 0
-RightHeavier = (left right : Sample) → pos 2 ≤ℤ needle left right → ¬ (formula right ≤F formula left)
+RightHeavier = (left right : Sample) → pos 2 ≤ℤ needle left right → ¬ (formula right (common left right) ≤F formula left (common left right))
 
 abbrev pub LeftHeavier : Type 0
-LeftHeavier = (left right : Sample) → needle left right ≤ℤ neg 2 → ¬ (formula left ≤F formula right)
+LeftHeavier = (left right : Sample) → needle left right ≤ℤ neg 2 → ¬ (formula left (common left right) ≤F formula right (common left right))
 
--- 6. the needle is within 0.0012 kg/m³ of the formula's difference
+-- 6. the needle is within 0.0012 kg/m³ of the formula's difference there
 abbrev pub NeedleWithin : Type 0
-NeedleWithin = (left right : Sample) → Within (over 12 10_000) (needle left right) (formula right ⊖ formula left)
+NeedleWithin = (left right : Sample) → Within (over 12 10_000) (needle left right) (formula right (common left right) ⊖ formula left (common left right))

@@ -15,15 +15,9 @@ use Rattle.waters.specs.declared.Water.the-variants.{Known, Refused}
 use Rattle.sea.specs.declared.InRange.{InRange}
 use Rattle.sea.specs.declared.InRange.the-variants.{Inside, Outside}
 use Rattle.sea.specs.Recipe.{bulkOf, shownOf, shownAt, modulusAt, parcelOf, parcelAt}
-use Rattle.sea.specs.Sizes.{Lies}
+use Rattle.sea.specs.Sizes.{Lies, OnTable}
 use Rattle.sea.specs.Water.{rangeOf, unless, waterOf}
 use Rattle.sea.proofs.Grid.{natural, inside-lies, parcel-ranges}
-
--- the grid table
-pub record OnTable (σ τ π : ℤ) : Type 0 where
-  pub salinity : Lies (pos 0) (pos 42_000) σ
-  pub temperature : Lies (neg 2_000) (pos 40_000) τ
-  pub pressure : Lies (pos 0) (pos 100_000) π
 
 -- ---- in range means Inside
 yes : (a b : Bool) → T a → T b → cond a (cond b Inside Outside) Outside ≡ Inside

@@ -5,7 +5,7 @@ use mathlib.Core.Path.{_≡_, refl, sym, ap, _∙_, subst}
 use mathlib.Core.Bool.{Bool, true, false, cond}
 use mathlib.Core.List.{List, [], _∷_, map}
 use native.Mathlib.Omega.{arith}
-use lib.Dec.{T}
+use lib.Dec.{T, le→leb}
 use lib.IntN.{ℤ, pos, natAbs, _+ℤ_}
 use lib.ListN.{getD, drop}
 use lib.Signed.{leZ, leZ-yes}
@@ -44,6 +44,9 @@ natural {n} {z} l =
     let b = above-plus z (pos n) (of-≤ℤ z (pos n) (l .high)) in
     let w : minus z ≡ 0 = omega arith in
     record { is = pos-plus z w; whole = w; most = b; size = omega (arith, size-is z) }
+
+pub lies-natural : {m n : ℕ} → m ≤ n → Lies (pos 0) (pos n) (pos m)
+lies-natural {m} {n} h = let z : 0 ≤ m = omega arith in record { low = leZ-yes (le→leb 0 m z); high = leZ-yes (le→leb m n h) }
 
 -- as it comes back from its word
 pub natural-word : {n : ℕ} {z : ℤ} → SFits w64 z → Lies (pos 0) (pos n) z → word z ≡ pos (plus z)

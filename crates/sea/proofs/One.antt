@@ -2,7 +2,11 @@
 -- dropped clause breaks these laws. Assumes nothing.
 use mathlib.Core.Path.{_≡_, sym, _∙_}
 use contract.Lifetimes
+use Rattle.sea.proofs.sounding_at.Reads as sounding-at
 use Rattle.sea.proofs.water_at.Reads as water-at
+
+pub one-sounding-at : (κs : Lifetimes.Lfts 0) (a : _) (r r′ : _) (s s′ : _) → sounding-at.Learnt κs a r s → sounding-at.Learnt κs a r′ s′ → r ≡ r′
+one-sounding-at κs a r r′ s s′ e f = e ∙ sym f
 
 pub one-water-at : (κs : Lifetimes.Lfts 0) (a : _) (r r′ : _) (s s′ : _) → water-at.Learnt κs a r s → water-at.Learnt κs a r′ s′ → r ≡ r′
 one-water-at κs a r r′ s s′ e f = e ∙ sym f

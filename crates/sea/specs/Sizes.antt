@@ -15,6 +15,12 @@ pub record Lies (lo hi z : ℤ) : Type 0 where
   pub low : lo ≤ℤ z
   pub high : z ≤ℤ hi
 
+-- the grid table: σ 0 to 42,000, τ -2,000 to 40,000, π 0 to 100,000
+pub record OnTable (σ τ π : ℤ) : Type 0 where
+  pub salinity : Lies (pos 0) (pos 42_000) σ
+  pub temperature : Lies (neg 2_000) (pos 40_000) τ
+  pub pressure : Lies (pos 0) (pos 100_000) π
+
 -- small enough that a product by a grid number fits 64 bits
 abbrev pub Small : ℤ → Type 0
 Small z = natAbs z ≤ 46_000_000_000_000

@@ -2,9 +2,8 @@
 ghost use mathlib.Core.Path.{_≡_};
 ghost use lib.IntN.{pos, _+ℤ_};
 ghost use Rattle.whole.specs.Arith.{neg, plus, scaled};
-ghost use Rattle.waters.specs.declared.Water.the-variants.{Known};
 ghost use Rattle.sea.specs.Recipe as the;
-ghost use Rattle.sea.specs.Sizes.{Lies, Sizes, Salty, Stiff, Ranges};
+ghost use Rattle.sea.specs.Sizes.{Lies, OnTable, Sizes, Salty, Stiff, Ranges};
 ghost use Rattle.sea.specs.Water.{rangeOf, waterOf};
 use refusals::Refusal;
 use waters::Water;
@@ -37,6 +36,19 @@ pub struct Parcel {
     pub k0: i64,
     pub a: i64,
     pub b: i64,
+}
+
+// A water under a pressure: the shown density in 0.001 kg/m3 and the bulk modulus in 0.01 bar.
+pub struct State {
+    pub density: u32,
+    pub bulk: u32,
+}
+
+// The same at its own pressure, and the density of the same water under another.
+pub struct Sounding {
+    pub density: u32,
+    pub bulk: u32,
+    pub under: u32,
 }
 
 // Coefficients in units of 10^-9, lowest power first, noughts past a row's end.
@@ -170,15 +182,38 @@ fn compressed(d: i64, k: i64, pi: i64) -> u32
     ((m + m * p / n + 500) / 1000) as u32
 }
 
-// Density and bulk modulus of a water at a pressure.
-fn pressed(x: Parcel, pi: i64) -> Water
+// Density and bulk modulus of a water under a pressure.
+fn pressed(x: Parcel, pi: i64) -> State
     requires { ⌜ Lies (pos 0) (pos 100_000) pi ⌝ ∗ ⌜ Stiff x pi ⌝ ∗ ⌜ Ranges (x .d) (the.bulk (x .k0) (x .a) (x .b) (plus pi)) (plus pi) ⌝ }
-    ensures { λ r. ⌜ r ≡ Known (the.shown (x .d) (the.bulk (x .k0) (x .a) (x .b) (plus pi)) (plus pi)) (the.hundredths (the.bulk (x .k0) (x .a) (x .b) (plus pi))) ⌝ }
+    ensures { λ r. ⌜ r ≡ the.pressedOf x (plus pi) ⌝ }
 {
     let k = bulk(x, pi);
     let density = compressed(x.d, k, pi);
     let bulk = (whole::unsigned(k) / 10000000) as u32;
-    Water::Known { density, bulk }
+    State { density, bulk }
+}
+
+// The water of a point of the grid, and its density under the pressure `deep`: the rows are worked out once, and at its own pressure nothing twice.
+// It asks for numbers of the grid; the call for everybody else is `water_at`, which asks for nothing.
+pub fn sounding_at(sigma: i64, tau: i64, pi: i64, deep: i64) -> Sounding
+    requires { ⌜ OnTable sigma tau pi ⌝ ∗ ⌜ Lies (pos 0) (pos 100_000) deep ⌝ }
+    ensures { λ r. ⌜ r ≡ the.soundingAt (plus sigma) tau (plus pi) (plus deep) ⌝ }
+{
+    let water = parcel_at(sigma, tau);
+    let own = pressed(water, pi);
+    if deep == pi {
+        return Sounding {
+            density: own.density,
+            bulk: own.bulk,
+            under: own.density,
+        };
+    }
+    let other = pressed(water, deep);
+    Sounding {
+        density: own.density,
+        bulk: own.bulk,
+        under: other.density,
+    }
 }
 
 // Whether z is from low to high, ends included.
@@ -206,5 +241,9 @@ pub fn water_at(sigma: i64, tau: i64, pi: i64) -> Water
     let InRange::Inside = within(pi, 0, 100000) else {
         return Water::Refused(Refusal::Pressure);
     };
-    pressed(parcel_at(sigma, tau), pi)
+    let s = sounding_at(sigma, tau, pi, pi);
+    Water::Known {
+        density: s.density,
+        bulk: s.bulk,
+    }
 }

@@ -20,7 +20,7 @@ unfolding cellText
 needle-shows (Value z) = refl
 needle-shows (NoNeedle k) = refl
 
-pub line-row : (n : ℕ) (left right : Entry) → lineOf n left right ≡ rowText 32 (lineCells n (channelOf left) (channelOf right))
+pub line-row : (n : ℕ) (left right : Entry) → lineOf n left right ≡ rowText 32 (lineCells n (channelOf left) (channelOf right) (needleOf (channelOf left) (channelOf right)))
 unfolding lineOf placesText rowText cellText
 line-row n left right =
     let l = channelOf left in

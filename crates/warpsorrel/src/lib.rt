@@ -7,6 +7,7 @@ ghost use Rattle.sea.specs.Water.{waterOf};
 ghost use Rattle.waters.specs.Numbers.{waterNumber, waterDensity, waterBulk};
 ghost use Rattle.channels.specs.Numbers.{channelNumber, needleNumber};
 ghost use Rattle.panel.specs.Panel.{channelOf, comparisonOf};
+ghost use Rattle.panel.specs.Sides.{needleBetween, comparedFrom};
 ghost use Rattle.pairs.specs.Pairs.{pairs};
 ghost use Rattle.streams.specs.Nth.{nthOf};
 ghost use Rattle.cells.specs.Cells.{written};
@@ -15,9 +16,10 @@ ghost use Rattle.lines.specs.Line.{wroteOf, wroteNumber, wroteCount};
 ghost use Rattle.pages.specs.Page.{pageOf, filledOf, filledNumber, filledCount};
 ghost use Rattle.abi.specs.Abi.{version, entryOf, channelWords, comparisonWords, foundNumber, foundWords};
 use channels::Channel;
+use panel::Side;
 use streams::Found;
 
-pub const VERSION: u32 = 1;
+pub const VERSION: u32 = 2;
 
 // The ABI's own number.
 #[no_mangle]
@@ -91,7 +93,22 @@ pub extern "C" fn warpsorrel_channel(
     }
 }
 
-// The needle of two reports: 0 or its refusal; out gets the left density, the right density (0 where refused) and the needle.
+// The words of two sides and their needle.
+fn put_needle(left: Side, right: Side, out: &mut [i64; 3]) -> u32
+    ensures { λ r. ⌜ r ≡ needleNumber (needleBetween left right) ⌝ }
+    ensures { λ r. ⌜ now (out .exit) ≡ sets (now (out .entry)) 0 (comparisonWords (comparedFrom left right)) ⌝ }
+{
+    let needle = panel::needle(left, right);
+    let l = left.channel;
+    let r = right.channel;
+    out[0] = l.density() as i64;
+    out[1] = r.density() as i64;
+    out[2] = needle.value();
+    needle.number()
+}
+
+// The needle of two reports: 0 or its refusal; out gets the left density, the right density (0 where refused), each at its own pressure, and the
+// needle, of both under the greater of the two.
 #[no_mangle]
 pub extern "C" fn warpsorrel_needle(
     left_kind: u32,
@@ -114,13 +131,11 @@ pub extern "C" fn warpsorrel_needle(
         right_temperature,
         right_pressure,
     );
-    let l = panel::answer(left);
-    let r = panel::answer(right);
-    let needle = panel::compare(l, r);
-    out[0] = l.density() as i64;
-    out[1] = r.density() as i64;
-    out[2] = needle.value();
-    needle.number()
+    let l = panel::entered(left);
+    let r = panel::entered(right);
+    let a = panel::beside(l, r);
+    let b = panel::beside(r, l);
+    put_needle(a, b, out)
 }
 
 // The float for the recorder, of a shown density.

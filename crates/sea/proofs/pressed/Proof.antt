@@ -8,8 +8,8 @@ use mir.ValLaws.{toZ-ofZ}
 use Rattle.whole.specs.Arith.{plus}
 use Rattle.whole.proofs.Words.{word, given, fits-size}
 use Rattle.whole.proofs.Ints.{size-is}
-use Rattle.waters.specs.declared.Water.the-variants.{Known}
-use Rattle.sea.specs.Recipe.{bulk, hundredths, mass}
+use Rattle.sea.specs.declared.State.{State}
+use Rattle.sea.specs.Recipe.{bulk, hundredths, mass, pressedOf}
 use Rattle.sea.proofs.Grid.{lies-word}
 use Rattle.sea.proofs.pressed.Statement.{statement}
 use Rattle.sea.proofs.pressed.Tie as tie
@@ -46,10 +46,14 @@ unsigned-requires c κs = let b = c .before .before .before in rw (k-is (c .befo
 cast-bulk : tie.Need-cast-bulk
 cast-bulk c = record { fits = omega (arith, hundredths-is c, c .before .before .before .before .pre .1 .1 .hundredths-high) }
 
+abbrev state : ℕ → ℕ → State
+state d k = record { density = d; bulk = k }
+
 returns : tie.Need-returns
+unfolding pressedOf
 returns c =
     let b = c .before .before .before .before in
-    ap₂ Known (c .before .compressed .ensures ∙ rw (d-is b, k-is (c .before .before .before), π-is b)) (hundredths-is c)
+    ap₂ state (c .before .compressed .ensures ∙ rw (d-is b, k-is (c .before .before .before), π-is b)) (hundredths-is c)
 
 pub pressed-spec : {M : Type 1} → statement M
 pressed-spec =

@@ -1,6 +1,5 @@
 -- `sea::water_at` meets its contract: the first check that fails is the answer, and a reading that passes all is on the grid. Assumes nothing.
 use mathlib.Core.Path.{_≡_, refl, _∙_}
-use Prim.Native.Nat.{ℕ}
 use borrow.Author.Needs.{needs}
 use lib.IntN.{ℤ, pos}
 use mir.Syntax.{w64}
@@ -10,10 +9,10 @@ use Rattle.refusals.specs.declared.Refusal.the-variants.{Salinity, Temperature,
 use Rattle.waters.specs.declared.Water.the-variants.{Known}
 use Rattle.sea.specs.declared.InRange.{InRange}
 use Rattle.sea.specs.declared.InRange.the-variants.{Inside}
-use Rattle.sea.specs.Recipe.{bulk, shown, hundredths, bulkOf, shownOf, shownAt, modulusAt, parcelOf, parcelAt}
-use Rattle.sea.specs.Sizes.{Lies}
+use Rattle.sea.specs.Recipe.{shownAt, modulusAt, soundingAt}
+use Rattle.sea.specs.Sizes.{Lies, OnTable}
 use Rattle.sea.specs.Water.{rangeOf, unless, waterOf}
-use Rattle.sea.proofs.Grid.{natural, lies-word, inside-lies, range-is, parcel-stiff, parcel-ranges}
+use Rattle.sea.proofs.Grid.{inside-lies, range-is}
 use Rattle.sea.proofs.water_at.Statement.{statement}
 use Rattle.sea.proofs.water_at.Tie as tie
 
@@ -87,42 +86,22 @@ returns-3 c =
 π-lies : (c : tie.After-enum-told5) → Lies (pos 0) (pos 100_000) (c .before .before .before .before .before .before .before .before .before .args .pi)
 π-lies c = inside-lies (pos 0) (pos 100_000) _ (π-inside c)
 
-parcel-at-requires : tie.Need-parcel-at-requires
-parcel-at-requires c κs =
+on-table : (c : tie.After-enum-told5) → let a = c .before .before .before .before .before .before .before .before .before .args in OnTable (a .sigma) (a .tau) (a .pi)
+on-table c = record { salinity = σ-lies c; temperature = τ-lies c; pressure = π-lies c }
+
+sounding-at-requires : tie.Need-sounding-at-requires
+sounding-at-requires c κs =
     let b = c .before .before .before .before .before .before .before .before .before in
-    (lies-word (b .fits .sigma) (σ-lies c), lies-word (b .fits .tau) (τ-lies c))
-
-parcel-is : (c : tie.After-parcel-at) → let a = c .before .before .before .before .before .before .before .before .before .before .args in
-    c .parcel-at .result ≡ parcelAt (plus (a .sigma)) (a .tau)
-parcel-is c =
-    let b = c .before .before .before .before .before .before .before .before .before .before in
-    c .parcel-at .ensures ∙ rw (toZ-ofZ w64 (b .args .sigma) (b .fits .sigma), toZ-ofZ w64 (b .args .tau) (b .fits .tau))
-
-pressed-requires : tie.Need-pressed-requires
-pressed-requires c κs =
-    let d = c .before in
-    let b = d .before .before .before .before .before .before .before .before .before in
-    let σ = plus (b .args .sigma) in (
-      lies-word (b .fits .pi) (π-lies d),
-      rw (parcel-is c, toZ-ofZ w64 (b .args .pi) (b .fits .pi)) (
-        parcel-stiff σ (b .args .tau) (b .args .pi) (natural (σ-lies d) .most) (τ-lies d) (π-lies d),
-        parcel-ranges σ (b .args .tau) (b .args .pi) (natural (σ-lies d) .most) (τ-lies d) (π-lies d),
-      ),
-    )
-
--- a parcel of the grid, pressed, is the recipe's density and bulk modulus
-pressed-is : (σ : ℕ) (τ : ℤ) (π : ℕ) → let x = parcelAt σ τ in
-    Known (shown (x .d) (bulk (x .k0) (x .a) (x .b) π) π) (hundredths (bulk (x .k0) (x .a) (x .b) π)) ≡ Known (shownAt σ τ π) (modulusAt σ τ π)
-unfolding parcelAt parcelOf shownAt shownOf modulusAt bulkOf
-pressed-is σ τ π = refl
+    rw (toZ-ofZ w64 (b .args .sigma) (b .fits .sigma), toZ-ofZ w64 (b .args .tau) (b .fits .tau), toZ-ofZ w64 (b .args .pi) (b .fits .pi)) (on-table c, π-lies c)
 
 returns-4 : tie.Need-returns-4
+unfolding soundingAt
 returns-4 c =
-    let e = c .before in
-    let d = e .before in
+    let d = c .before in
     let b = d .before .before .before .before .before .before .before .before .before in
-    c .pressed .ensures ∙ rw (parcel-is e, toZ-ofZ w64 (b .args .pi) (b .fits .pi)) (pressed-is (plus (b .args .sigma)) (b .args .tau) (plus (b .args .pi)))
-    ∙ by-ranges (b .args .sigma) (b .args .tau) (b .args .pi) (σ-inside (d .before .before .before .before .before .before)) (τ-inside (d .before .before .before)) (π-inside d)
+    let found : c .sounding-at .result ≡ soundingAt (plus (b .args .sigma)) (b .args .tau) (plus (b .args .pi)) (plus (b .args .pi)) =
+    c .sounding-at .ensures ∙ rw (toZ-ofZ w64 (b .args .sigma) (b .fits .sigma), toZ-ofZ w64 (b .args .tau) (b .fits .tau), toZ-ofZ w64 (b .args .pi) (b .fits .pi)) in
+    rw (found) (by-ranges (b .args .sigma) (b .args .tau) (b .args .pi) (σ-inside (d .before .before .before .before .before .before)) (τ-inside (d .before .before .before)) (π-inside d))
 
 pub water-at-spec : {M : Type 1} → statement M
 water-at-spec =
@@ -140,6 +119,5 @@ water-at-spec =
     enum-told-5
     enum-told-6
     returns-3
-    parcel-at-requires
-    pressed-requires
+    sounding-at-requires
     returns-4)

@@ -1,13 +1,36 @@
--- `warpsorrel_needle` meets its contract: it hands on what `panel::answer` answers of both reports, and their needle. Assumes nothing.
-use mathlib.Core.Path.{ap, ap₂, _∙_}
+-- `warpsorrel_needle` meets its contract: the sides of both reports, each beside the other, are their comparison. Assumes nothing.
+use mathlib.Core.Path.{_≡_, ap, ap₂, _∙_}
 use borrow.Author.Needs.{needs}
-use mir.Syntax.{w64}
-use mir.ValLaws.{toZ-ofZ}
+use lib.Seq.{sets}
+use denote.Ref.{now}
+use Rattle.channels.specs.declared.Comparison.{Comparison}
 use Rattle.channels.specs.Numbers.{needleNumber}
-use Rattle.panel.specs.Panel.{channelOf, needleOf, comparisonOf}
-use Rattle.abi.proofs.Words.{small-word}
+use Rattle.readings.specs.declared.Entry.{Entry}
+use Rattle.panel.specs.Panel.{entered, comparisonOf}
+use Rattle.panel.specs.Sides.{Placed, besideOf, comparedFrom}
+use Rattle.panel.proofs.Sides.{entered-placed, compared-beside}
+use Rattle.abi.specs.Abi.{entryOf, comparisonWords}
 use Rattle.warpsorrel.proofs.warpsorrel_needle.Statement.{statement}
 use Rattle.warpsorrel.proofs.warpsorrel_needle.Tie as tie
+
+-- what stands on either side
+abbrev left : tie.Start → Entry
+left b = entryOf (b .args .left-kind) (b .args .left-salinity) (b .args .left-temperature) (b .args .left-pressure)
+
+abbrev right : tie.Start → Entry
+right b = entryOf (b .args .right-kind) (b .args .right-salinity) (b .args .right-temperature) (b .args .right-pressure)
+
+left-is : (c : tie.After-entered) → c .entered .result ≡ entered (left (c .before .before .before))
+left-is c = c .entered .ensures ∙ ap entered (c .before .before .entry-of .ensures)
+
+right-is : (c : tie.After-entered2) → c .entered2 .result ≡ entered (right (c .before .before .before .before))
+right-is c = c .entered2 .ensures ∙ ap entered (c .before .before .entry-of2 .ensures)
+
+left-placed : (c : tie.After-entered) → Placed (c .entered .result)
+left-placed c = rw (left-is c) (entered-placed (left (c .before .before .before)))
+
+right-placed : (c : tie.After-entered2) → Placed (c .entered2 .result)
+right-placed c = rw (right-is c) (entered-placed (right (c .before .before .before .before)))
 
 entry-of-requires : tie.Need-entry-of-requires
 entry-of-requires c κs = search needs
@@ -15,68 +38,34 @@ entry-of-requires c κs = search needs
 entry-of-requires-2 : tie.Need-entry-of-requires-2
 entry-of-requires-2 c κs = search needs
 
-answer-requires : tie.Need-answer-requires
-answer-requires c κs = search needs
+entered-requires : tie.Need-entered-requires
+entered-requires c κs = search needs
 
-answer-requires-2 : tie.Need-answer-requires-2
-answer-requires-2 c κs = search needs
+entered-requires-2 : tie.Need-entered-requires-2
+entered-requires-2 c κs = search needs
 
-compare-requires : tie.Need-compare-requires
-compare-requires c κs = search needs
+beside-requires : tie.Need-beside-requires
+beside-requires c κs = (left-placed (c .before), right-placed c)
 
-density-requires : tie.Need-density-requires
-density-requires c κs = search needs
+beside-requires-2 : tie.Need-beside-requires-2
+beside-requires-2 c κs = (right-placed (c .before), left-placed (c .before .before))
 
-cast-out : tie.Need-cast-out
-cast-out c = search needs
+put-needle-requires : tie.Need-put-needle-requires
+put-needle-requires c κs = search needs
 
-element-set-from-out : tie.Need-element-set-from-out
-element-set-from-out c = search needs
-
-density-requires-2 : tie.Need-density-requires-2
-density-requires-2 c κs = search needs
-
-cast-out-2 : tie.Need-cast-out-2
-cast-out-2 c = search needs
-
-element-set-from-out-2 : tie.Need-element-set-from-out-2
-element-set-from-out-2 c = search needs
-
-value-requires : tie.Need-value-requires
-value-requires c κs = search needs
-
-element-set-from-out-3 : tie.Need-element-set-from-out-3
-element-set-from-out-3 c = search needs
-
-number-requires : tie.Need-number-requires
-number-requires c κs = search needs
+-- both sides, as they are handed on
+compared : (c : tie.After-beside2) → let b = c .before .before .before .before .before .before in comparedFrom (c .before .beside .result) (c .beside2 .result) ≡ comparisonOf (left b) (right b)
+compared c =
+    let b = c .before .before .before .before .before .before in
+    let l = left-is (c .before .before .before) in
+    let r = right-is (c .before .before) in
+    ap₂ comparedFrom (c .before .beside .ensures ∙ ap₂ besideOf l r) (c .beside2 .ensures ∙ ap₂ besideOf r l) ∙ compared-beside (left b) (right b)
 
 returns : tie.Need-returns
-unfolding comparisonOf
 returns c =
-    let v = c .before in
-    let rd = v .before in
-    let ld = rd .before in
-    let n = ld .before in
-    let r = n .before in
-    let l = r .before in
-    let b = l .before .before .before .args in
-    let l-is = l .answer .ensures ∙ ap channelOf (l .before .before .entry-of .ensures) in
-    let r-is = r .answer2 .ensures ∙ ap channelOf (l .before .entry-of2 .ensures) in
-    let n-is = n .compare .ensures ∙ ap₂ needleOf l-is r-is in (
-      c .number .ensures ∙ ap needleNumber n-is,
-      rw (
-        small-word (ld .density .result) (ld .density .ok),
-        small-word (rd .density2 .result) (rd .density2 .ok),
-        toZ-ofZ w64 (v .value .result) (record { sfits = v .value .ok }),
-        ld .density .ensures,
-        rd .density2 .ensures,
-        v .value .ensures,
-        l-is,
-        r-is,
-        n-is,
-      ),
-    )
+    let e = compared (c .before .before) in
+    let out = c .before .before .before .before .before .before .before .before .args .out in
+    (c .put-needle .ensures .0 ∙ ap (λ (x : Comparison). needleNumber (x .needle)) e, c .put-needle .ensures .1 ∙ ap (λ (x : Comparison). sets (now out) 0 (comparisonWords x)) e)
 
 pub warpsorrel-needle-spec : {M : Type 1} → statement M
 warpsorrel-needle-spec =
@@ -84,16 +73,9 @@ warpsorrel-needle-spec =
     (tie.spec
     entry-of-requires
     entry-of-requires-2
-    answer-requires
-    answer-requires-2
-    compare-requires
-    density-requires
-    cast-out
-    element-set-from-out
-    density-requires-2
-    cast-out-2
-    element-set-from-out-2
-    value-requires
-    element-set-from-out-3
-    number-requires
+    entered-requires
+    entered-requires-2
+    beside-requires
+    beside-requires-2
+    put-needle-requires
     returns)
