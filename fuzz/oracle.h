@@ -26,6 +26,7 @@ size_t oracle_pairs(const uint8_t *stream, size_t length);
 /* The pair with so many before it, left then right; 0 where there is none. */
 int oracle_pair(const uint8_t *stream, size_t length, size_t before, struct oracle_report reports[2], struct oracle_channel channels[2]);
 
+/* Both waters at the greater of the two pressures. */
 struct oracle_needle oracle_needle(const struct oracle_channel channels[2]);
 
 /* out has room for the longest line, the longest page. */

@@ -21,6 +21,7 @@ SEEDS = {
     "empty": b"",
     "example": surface(0, 5) + surface(35, 5) + MISSING + surface(0, 5),
     "deep": deep(35, 5, 1000) + deep(0, 25, 0),
+    "depths": deep(35, 5, 9) + deep(35, 5, 0.4) + surface(35, 5) + deep(0, 25, 9),
     "surface": surface(35, 25) + surface(0, 25),
     "missing": MISSING + MISSING,
     "not-a-number": deep(35, float("nan"), 10) + surface(float("inf"), 5),

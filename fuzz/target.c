@@ -104,7 +104,7 @@ static void look_at_pair(const uint8_t *stream, size_t length, size_t before, ui
     struct oracle_report reports[2];
     struct oracle_channel c[2] = {{0, 0, 0, 0, 0, 0}, {0, 0, 0, 0, 0, 0}};
     int found = oracle_pair(stream, length, before, reports, c);
-    struct oracle_needle n = oracle_needle(c);
+    struct oracle_needle n = found ? oracle_needle(c) : (struct oracle_needle){0, 0};
     int64_t right[8] = {c[0].refusal, c[0].density, c[0].bulk, c[1].refusal, c[1].density, c[1].bulk, n.refusal, n.value};
     if (warpsorrel_pair(stream, length, before, lend_words()) != (uint32_t)found) fail("whether there is such a pair");
     compare_words("a pair", right, 8);
