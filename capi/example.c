@@ -152,6 +152,7 @@ int main(void) {
 
     const struct report fjord = {"fjord", WARPSORREL_SURFACE, 28.5f, 12.25f, 0};
     const struct report deep = {"deep", WARPSORREL_DEEP, 34.25f, 7.5f, 4};
+    const struct report shallow = {"shallow", WARPSORREL_DEEP, 34.25f, 7.5f, 0.4f}; /* the deep one's water */
     const struct report brine = {"brine", WARPSORREL_DEEP, 42.25f, 7.5f, 4};
     const struct report none = {"none", WARPSORREL_MISSING, 0, 0, 0};
     const struct report broken = {"broken", WARPSORREL_SURFACE, NAN, 7.5f, 0};
@@ -165,6 +166,7 @@ int main(void) {
     for (size_t i = 0; i < sizeof every / sizeof *every; i++) show_channel(every[i]);
     show_needle(fjord, deep);
     show_needle(deep, fjord);
+    show_needle(shallow, deep);
     show_needle(fjord, brine);
     show_needle(none, deep);
     show_recorder((uint32_t)channel_of(deep).density);

@@ -58,6 +58,7 @@ def main(panel: Panel) -> None:
 
     fjord = ("fjord", Report.surface(28.5, 12.25))
     deep = ("deep", Report.deep(34.25, 7.5, 4))
+    shallow = ("shallow", Report.deep(34.25, 7.5, 0.4))  # the deep one's water
     brine = ("brine", Report.deep(42.25, 7.5, 4))
     none = ("none", Report.missing())
     broken = ("broken", Report.surface(float("nan"), 7.5))
@@ -67,7 +68,7 @@ def main(panel: Panel) -> None:
     cut, unknown, length = ("cut", Report(Kind.CUT)), ("unknown", Report(Kind.UNKNOWN)), ("length", Report(Kind.LENGTH))
     for each in (fjord, deep, none, broken, brine, hot, abyss, cut, unknown, length):
         show_channel(panel, *each)
-    for left, right in ((fjord, deep), (deep, fjord), (fjord, brine), (none, deep)):
+    for left, right in ((fjord, deep), (deep, fjord), (shallow, deep), (fjord, brine), (none, deep)):
         show_needle(panel, *left, *right)
     show_recorder(panel, panel.channel(deep[1]).density)
     show_recorder(panel, 16_384_000)

@@ -28,7 +28,7 @@ mod panel {
     }
 
     /// The version that these declarations were written for.
-    pub const VERSION: u32 = 1;
+    pub const VERSION: u32 = 2;
 
     /// The version of the library.
     pub fn version() -> u32 {
@@ -264,6 +264,7 @@ fn main() {
 
     let fjord = ("fjord", Report::Surface { salinity: 28.5, temperature: 12.25 });
     let deep = ("deep", Report::Deep { salinity: 34.25, temperature: 7.5, pressure: 4.0 });
+    let shallow = ("shallow", Report::Deep { salinity: 34.25, temperature: 7.5, pressure: 0.4 }); // the deep one's water
     let brine = ("brine", Report::Deep { salinity: 42.25, temperature: 7.5, pressure: 4.0 });
     let none = ("none", Report::Missing);
     let broken = ("broken", Report::Surface { salinity: f32::NAN, temperature: 7.5 });
@@ -278,6 +279,7 @@ fn main() {
     }
     show_needle(fjord, deep);
     show_needle(deep, fjord);
+    show_needle(shallow, deep);
     show_needle(fjord, brine);
     show_needle(none, deep);
     show_recorder(deep.1.channel().density as u32);

@@ -28,7 +28,7 @@ extern "C" {
 
 /* ---- The version of what is declared here. It goes up when a call that was there changes what it takes or what it answers; new calls alone do
  * not raise it. A program that loads the library at run time asks once, at its start, and goes on only with the number that it was written for. */
-#define WARPSORREL_VERSION 1u
+#define WARPSORREL_VERSION 2u
 
 /* The version of the library: WARPSORREL_VERSION, if the two belong together. */
 uint32_t warpsorrel_version(void);
@@ -76,8 +76,9 @@ uint32_t warpsorrel_bulk(int64_t sigma, int64_t tau, int64_t pi);
  * the pressure. out gets sigma, tau, pi, the density and the bulk modulus; five noughts if refused. */
 uint32_t warpsorrel_channel(uint32_t kind, float salinity, float temperature, float pressure, int64_t out[5]);
 
-/* 0, or 100 plus the left's refusal, otherwise 200 plus the right's. out gets the left density and the right density (0 where
- * that one is refused) and the needle: right minus left in 0.001 kg/m3, plus where the right is heavier; 0 if refused. */
+/* 0, or 100 plus the left's refusal, otherwise 200 plus the right's. out gets the left density and the right density, each at its own pressure
+ * (0 where that one is refused), and the needle: right minus left in 0.001 kg/m3, both waters at the greater of the two pressures, plus where the
+ * right is heavier; 0 if refused. Where the pressures differ, the needle is not the difference of the two densities beside it. */
 uint32_t warpsorrel_needle(uint32_t left_kind, float left_salinity, float left_temperature, float left_pressure,
                            uint32_t right_kind, float right_salinity, float right_temperature, float right_pressure,
                            int64_t out[3]);
@@ -88,9 +89,9 @@ float warpsorrel_recorder(uint32_t shown);
 /* The least room for a line. No line has more than 30 bytes. */
 #define WARPSORREL_LINE 32
 
-/* The sheet's line of two reports and a pair number, at the start of out: number, left density, right density, needle, a line feed; a refused
- * place shows R and its number. 0, and count gets the bytes written; the bytes past them keep their values. Or the refusal: 30 for a room
- * under WARPSORREL_LINE, then 31 for a pair number of 0 or over 9,999; count gets 0 then, and out is untouched. */
+/* The sheet's line of two reports and a pair number, at the start of out: number, left density, right density and needle as warpsorrel_needle
+ * gives them, a line feed; a refused place shows R and its number. 0, and count gets the bytes written; the bytes past them keep their values.
+ * Or the refusal: 30 for a room under WARPSORREL_LINE, then 31 for a pair number of 0 or over 9,999; count gets 0 then, and out is untouched. */
 uint32_t warpsorrel_line(uint32_t number,
                          uint32_t left_kind, float left_salinity, float left_temperature, float left_pressure,
                          uint32_t right_kind, float right_salinity, float right_temperature, float right_pressure,
@@ -102,7 +103,8 @@ uint32_t warpsorrel_line(uint32_t number,
 size_t warpsorrel_pairs(const uint8_t *stream, size_t length);
 
 /* The pair of a stream with so many pairs before it (0 for the sheet's pair 1): 1, and out gets refusal, density and bulk modulus of the left,
- * then those of the right, then refusal and value of the needle. 0 where the stream has no such pair; out gets eight noughts then. */
+ * then those of the right, each at its own pressure, then refusal and value of the needle, as of warpsorrel_needle. 0 where the stream has no
+ * such pair; out gets eight noughts then. */
 uint32_t warpsorrel_pair(const uint8_t *stream, size_t length, size_t before, int64_t out[8]);
 
 /* The least room for a page, and the longest page there is. */

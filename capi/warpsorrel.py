@@ -38,7 +38,7 @@ from typing import Any, NamedTuple, Optional, SupportsIndex, Union
 
 __all__ = ["VERSION", "LINE", "PAGE", "Stream", "Kind", "Refusal", "Report", "Channel", "Needle", "Side", "Pair", "Written", "LibraryError", "Panel"]
 
-VERSION = 1
+VERSION = 2
 """The version of the C ABI that this module was written for."""
 
 LINE = 32
@@ -178,8 +178,9 @@ class Channel(NamedTuple):
 class Needle(NamedTuple):
     """Two waters compared.
 
-    left, right  their densities in 0.001 kg/m3; 0 for one that is refused
-    value        right minus left in 0.001 kg/m3, plus where the right is heavier; 0 if refused. 0, 1 and -1 say: these two are alike
+    left, right  their densities in 0.001 kg/m3, each at its own pressure; 0 for one that is refused
+    value        right minus left in 0.001 kg/m3, both waters at the greater of the two pressures, plus where the right is heavier; 0 if refused.
+                 0, 1 and -1 say: these two are alike. Where the pressures differ, it is not the difference of `left` and `right`
     """
 
     refusal: Refusal
@@ -197,7 +198,8 @@ class Side(NamedTuple):
 
 
 class Pair(NamedTuple):
-    """A pair of a stream; `needle` is right minus left in 0.001 kg/m3, plus where the right is heavier, and 0 if it is refused."""
+    """A pair of a stream, each side at its own pressure; `needle` is right minus left in 0.001 kg/m3, both waters at the greater of the two
+    pressures, plus where the right is heavier, and 0 if it is refused."""
 
     left: Side
     right: Side
@@ -342,7 +344,7 @@ class Panel:
         return Channel(Refusal(refusal), *out)
 
     def needle(self, left: Report, right: Report) -> Needle:
-        """Two reports compared: right minus left in 0.001 kg/m3."""
+        """Two reports compared: right minus left in 0.001 kg/m3, both waters at the greater of the two pressures."""
         out = (c_int64 * 3)()
         refusal = self._calls.needle(*_parts(left), *_parts(right), out)
         return Needle(Refusal(refusal), *out)
@@ -352,8 +354,9 @@ class Panel:
         return float(self._calls.recorder(_unsigned("shown", shown)))
 
     def line(self, number: SupportsIndex, left: Report, right: Report, room: int = LINE) -> Written:
-        """The sheet's line of two reports: pair number, both densities and the needle in 0.001 kg/m3, a line feed. A refused place shows R and
-        its number. Refused itself by ROOM for a room under LINE bytes, then by PAIR_NUMBER for a number that is not from 1 to 9,999."""
+        """The sheet's line of two reports: pair number, both densities and the needle in 0.001 kg/m3, as `needle` gives them, a line feed. A
+        refused place shows R and its number. Refused itself by ROOM for a room under LINE bytes, then by PAIR_NUMBER for a number that is not
+        from 1 to 9,999."""
         room = _whole("room", room, 0, 2**63 - 1)
         out, count = ctypes.create_string_buffer(room), c_size_t()
         refusal = self._calls.line(_unsigned("number", number), *_parts(left), *_parts(right), out, room, ctypes.byref(count))

@@ -138,17 +138,18 @@ def types_in(answer):
 
 def answers(panel):
     none, fjord, deep, brine = Report.missing(), Report.surface(28.5, 12.25), Report.deep(34.25, 7.5, 4), Report.deep(42.25, 7.5, 4)
-    same("version", 1, panel.version)
+    same("version", 2, panel.version)
     same("path", str(LIBRARY), panel.path)
     same("refusal", [Refusal.NONE, Refusal.SALINITY], [panel.refusal(35_000, 25_000, 100_000), panel.refusal(42_001, 25_000, 100_000)])
     same("density", 1_062_538, panel.density(35_000, 25_000, 100_000))
     same("bulk", 2_710_894, panel.bulk(35_000, 25_000, 100_000))
     same("channel", Channel(Refusal.NONE, 34_250, 7_500, 400, 1_026_941, 2_242_612), panel.channel(deep))
-    same("needle", Needle(Refusal.NONE, 1_021_502, 1_026_941, 5_439), panel.needle(fjord, deep))
+    same("needle", Needle(Refusal.NONE, 1_021_502, 1_026_941, 5_258), panel.needle(fjord, deep))
+    same("needle, one water at two depths", Needle(Refusal.NONE, 1_026_941, 1_026_776, 0), panel.needle(deep, Report.deep(34.25, 7.5, 0.4)))
     same("needle, refused", Needle(Refusal.RIGHT_SALINITY, 1_021_502, 0, 0), panel.needle(fjord, brine))
     same("recorder", ctypes.c_float(1_026.941).value, panel.recorder(1_026_941))
     same("recorder, over its range", 0.0, panel.recorder(16_384_000))
-    same("line", Written(Refusal.NONE, "9999 1026941 1021502 -5439\n"), panel.line(9_999, deep, fjord))
+    same("line", Written(Refusal.NONE, "9999 1026941 1021502 -5258\n"), panel.line(9_999, deep, fjord))
     same("line, refused", Written(Refusal.ROOM, ""), panel.line(0, deep, fjord, 31))
     same("line, refused", Written(Refusal.PAIR_NUMBER, ""), panel.line(0, deep, fjord))
     same("page, refused", Written(Refusal.ROOM, ""), panel.page(b"", warpsorrel.PAGE - 1))
@@ -202,11 +203,11 @@ def faults(panel):
 
 
 def other_versions():
-    with mock.patch.object(warpsorrel, "VERSION", 2):
-        says = f"{LIBRARY} is of version 1, and this module was written for version 2: take both from one copy"
+    with mock.patch.object(warpsorrel, "VERSION", 3):
+        says = f"{LIBRARY} is of version 2, and this module was written for version 3: take both from one copy"
         hold("another version", says, raised(LibraryError, Panel))
     with mock.patch.dict(warpsorrel._CALLS, {"none": (c_uint32,)}):
-        says = f"{LIBRARY} has no call warpsorrel_none: it is older than this module, which was written for version 1, or not Warpsorrel's"
+        says = f"{LIBRARY} has no call warpsorrel_none: it is older than this module, which was written for version 2, or not Warpsorrel's"
         hold("a call too few", says, raised(LibraryError, Panel))
 
 
