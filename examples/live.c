@@ -8,7 +8,7 @@ int main(void) {
     while (fgets(line, sizeof line, stdin)) {
         uint32_t left, right; /* kinds: 1 deep, 2 surface, 3 missing */
         float ls = 0, lt = 0, lp = 0, rs = 0, rt = 0, rp = 0;
-        int64_t out[3]; /* left density, right density and, both at the greater pressure, the needle; in 0.001 kg/m3 */
+        int64_t out[3]; /* the densities, each at its own pressure, and the needle, at the greater of the two; in 0.001 kg/m3 */
         if (sscanf(line, "%" SCNu32 "%f%f%f%" SCNu32 "%f%f%f%1s", &left, &ls, &lt, &lp, &right, &rs, &rt, &rp, more) != 8)
             left = right = WARPSORREL_CUT; /* not the eight numbers: no reading */
         uint32_t refused = warpsorrel_needle(left, ls, lt, lp, right, rs, rt, rp, out);
