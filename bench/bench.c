@@ -71,10 +71,6 @@ static const char *const shapes[] = {"accepted", "refused", "sheet"};
 static struct row rows[MOST];
 static uint8_t table[ROWS * ROW];
 
-static int density_of(const struct reading *r) {
-    return (int)warpsorrel_density(r->sigma, r->tau, r->pi);
-}
-
 /* The uniform readings two by two, as details prints them, or all of them missing; or as the sheet does, which is through with them after half
  * the rows and starts again. */
 static void take_rows(const char *which) {
@@ -83,14 +79,18 @@ static void take_rows(const char *which) {
         const struct reading *r = &readings[i];
         int number = i / 2 + 1, side = i % 2;
         if (which == shapes[0]) {
-            int density = density_of(r), bulk = (int)warpsorrel_bulk(r->sigma, r->tau, r->pi);
+            int density = (int)warpsorrel_density(r->sigma, r->tau, r->pi), bulk = (int)warpsorrel_bulk(r->sigma, r->tau, r->pi);
             rows[i] = (struct row){ACCEPTED, number, side, {(int)r->sigma, (int)r->tau, (int)r->pi, density, bulk},
                                    {r->s, r->t, r->p, density / 1000.0, bulk / 100.0}};
         } else if (which == shapes[1]) {
             rows[i] = (struct row){REFUSED, number, side, {1, 1, 1, 1, 1}, {0}};
         } else {
-            int pair = i % (MOST / 2), left = density_of(&readings[2 * pair]), right = density_of(&readings[2 * pair + 1]);
-            rows[i] = (struct row){SHEET, pair + 1, 0, {left, right, right - left}, {left, right, right - left}};
+            int pair = i % (MOST / 2);
+            int64_t out[3];
+            r = &readings[2 * pair];
+            warpsorrel_needle(1, r[0].salinity, r[0].temperature, r[0].pressure, 1, r[1].salinity, r[1].temperature, r[1].pressure, out);
+            int left = (int)out[0], right = (int)out[1], needle = (int)out[2];
+            rows[i] = (struct row){SHEET, pair + 1, 0, {left, right, needle}, {left, right, needle}};
         }
     }
 }
@@ -127,11 +127,11 @@ NEEDLE(library_needle, warpsorrel_needle)
 NEEDLE(c_needle, plain_needle)
 
 /* From floats too; the doubles check nothing and round nothing. */
-static uint64_t double_needle(int n) {
+static uint64_t formula_needle(int n) {
     double sum = 0;
     for (int i = 0; i + 1 < n; i += 2) {
         const struct reading *l = &readings[i], *r = l + 1;
-        sum += double_density(r->salinity, r->temperature, r->pressure) - double_density(l->salinity, l->temperature, l->pressure);
+        sum += double_needle(l->salinity, l->temperature, l->pressure, r->salinity, r->temperature, r->pressure);
     }
     return (uint64_t)(int64_t)sum;
 }
@@ -174,7 +174,7 @@ static const struct work {
     {"reading", "double", double_grid, MOST, FEW, 1, "million"},
     {"needle", "library", library_needle, MOST, FEW, 0.5, "million"},
     {"needle", "plain", c_needle, MOST, FEW, 0.5, "million"},
-    {"needle", "double", double_needle, MOST, FEW, 0.5, "million"},
+    {"needle", "double", formula_needle, MOST, FEW, 0.5, "million"},
     {"page", "library", library_page, 2, 1, 1, "thousand"},
     {"page", "plain", c_page, 2, 1, 1, "thousand"},
     {"row", "library", library_rows, ROWS, FEW / 5, 1, "million rows"},
@@ -222,8 +222,8 @@ static int row_differs(const struct row *r, size_t at) {
 }
 
 static int check(void) {
-    static const uint32_t kinds[] = {WARPSORREL_DEEP, WARPSORREL_SURFACE, WARPSORREL_MISSING, 4, WARPSORREL_CUT, WARPSORREL_UNKNOWN,
-                                     WARPSORREL_LENGTH};
+    static const uint32_t kinds[] = {WARPSORREL_DEEP, WARPSORREL_DEEP, WARPSORREL_DEEP, WARPSORREL_SURFACE, WARPSORREL_SURFACE,
+                                     WARPSORREL_MISSING, 4, WARPSORREL_CUT, WARPSORREL_UNKNOWN, WARPSORREL_LENGTH};
     for (int d = 0; d < 3; d++) {
         take_readings(waters[d]);
         for (int i = 0; i < MOST; i++) {
@@ -235,11 +235,13 @@ static int check(void) {
             double off = double_density(r->s, r->t, r->p) - density / 1000.0;
             if (off > 0.0006 || off < -0.0006) return differs("reading in doubles", waters[d], i);
             int64_t one[3], two[3];
-            uint32_t kind = kinds[draw(sizeof kinds / sizeof *kinds)];
-            if (warpsorrel_needle(1, l->salinity, l->temperature, l->pressure, kind, r->salinity, r->temperature, r->pressure, one) !=
-                    plain_needle(1, l->salinity, l->temperature, l->pressure, kind, r->salinity, r->temperature, r->pressure, two) ||
+            uint32_t lk = kinds[draw(sizeof kinds / sizeof *kinds)], rk = kinds[draw(sizeof kinds / sizeof *kinds)];
+            uint32_t refusal = warpsorrel_needle(lk, l->salinity, l->temperature, l->pressure, rk, r->salinity, r->temperature, r->pressure, one);
+            if (refusal != plain_needle(lk, l->salinity, l->temperature, l->pressure, rk, r->salinity, r->temperature, r->pressure, two) ||
                 memcmp(one, two, sizeof one) != 0)
                 return differs("needle", waters[d], i);
+            off = double_needle(l->s, l->t, lk == WARPSORREL_DEEP ? l->p : 0, r->s, r->t, rk == WARPSORREL_DEEP ? r->p : 0) - (double)one[2] / 1000;
+            if (refusal == 0 && (off > 0.0012 || off < -0.0012)) return differs("needle in doubles", waters[d], i);
         }
         take_stream(streams[d]);
         if (pages_differ(STREAM, sizeof page)) return differs("page", streams[d], 0);

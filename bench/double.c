@@ -18,3 +18,8 @@ double double_density(double s, double t, double p) {
     double k = k0 + p * (a + p * b);
     return surface / (1 - p / k);
 }
+
+double double_needle(double ls, double lt, double lp, double rs, double rt, double rp) {
+    double p = lp > rp ? lp : rp;
+    return double_density(rs, rt, p) - double_density(ls, lt, p);
+}

@@ -17,8 +17,10 @@ uint32_t jump_density(int64_t sigma, int64_t tau, int64_t pi);
 /* The same file with the root taken by the processor's square root of a double. */
 uint32_t sqrt_density(int64_t sigma, int64_t tau, int64_t pi);
 
-/* double.c: the published formula in doubles; practical salinity, degrees C, bar; kg/m3. */
+/* double.c: the published formula in doubles; practical salinity, degrees C, bar; kg/m3. The needle alone, without the densities beside it. */
 double double_density(double salinity, double temperature, double pressure);
+double double_needle(double left_salinity, double left_temperature, double left_pressure, double right_salinity, double right_temperature,
+                     double right_pressure);
 
 /* A row of the program details, of an accepted reading or a refused one, or of the sheet. */
 struct row {
