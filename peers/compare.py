@@ -1,6 +1,6 @@
-"""compare.py DRIVER..: the panel's densities beside Ferret's and GSW's, as tables.
+"""compare.py DRIVER..: the panel's densities and needles beside Ferret's and GSW's, as tables.
 
-The waters are grid numbers, drawn with a fixed seed. The peers get the same numbers as doubles; pressures in decibars."""
+The waters are grid numbers, drawn with a fixed seed. The panel gets them as floats, the peers as doubles; these take pressures in decibars."""
 import random
 import struct
 import subprocess
@@ -37,28 +37,25 @@ def floats_sent():
     return [struct.unpack("<3f", struct.pack("<3f", *reading())) for _ in range(20000)]
 
 
-def panel(grid):
-    """The panel's shown densities, in kg/m3."""
-    asked = b"".join(b"g" + struct.pack("<3q", *reading) for reading in grid)
-    answered = subprocess.run(DRIVER, input=asked, stdout=subprocess.PIPE, check=True).stdout
-    refusals, densities, _ = zip(*struct.iter_unpack("<3I", answered))
-    assert len(densities) == len(grid) and not any(refusals)
-    return numpy.array(densities) / 1000
+def ask(letter, request, answer, asked):
+    """The driver's answers, as columns."""
+    sent = b"".join(letter + struct.pack(request, *numbers) for numbers in asked)
+    answered = subprocess.run(DRIVER, input=sent, stdout=subprocess.PIPE, check=True).stdout
+    return numpy.array(list(struct.iter_unpack(answer, answered))).T
 
 
-def panel_floats(readings):
-    """The same of floats as they were sent."""
-    asked = b"".join(b"c" + struct.pack("<I3f", 1, *reading) for reading in readings)
-    answered = subprocess.run(DRIVER, input=asked, stdout=subprocess.PIPE, check=True).stdout
-    answers = list(struct.iter_unpack("<6q", answered))
-    assert len(answers) == len(readings) and not any(answer[0] for answer in answers)
-    return numpy.array([answer[4] for answer in answers]) / 1000
+def panel(waters):
+    """The panel's shown densities of deep reports, which are three columns; in 0.001 kg/m3."""
+    refusals, *_, densities, _ = ask(b"c", "<I3f", "<6q", [(1, *water) for water in zip(*waters)])
+    assert len(densities) == len(waters[0]) and not any(refusals)
+    return densities
 
 
-def panel_report(salinity, temperature, pressure):
-    asked = b"c" + struct.pack("<I3f", 1, salinity, temperature, pressure)
-    refusal, *_, density, _ = struct.unpack("<6q", subprocess.run(DRIVER, input=asked, stdout=subprocess.PIPE, check=True).stdout)
-    return "refusal %d" % refusal if refusal else "%.3f" % (density / 1000)
+def panel_needles(left, right):
+    """The panel's needles of such reports."""
+    refusals, _, _, needles = ask(b"n", "<I3fI3f", "<4q", [(1, *l, 1, *r) for l, r in zip(zip(*left), zip(*right))])
+    assert len(needles) == len(left[0]) and not any(refusals)
+    return needles
 
 
 def ferret(s, t, decibars):
@@ -108,7 +105,7 @@ def main():
     for name, grid in sets.items():
         s, t, bar = (numpy.array(column) for column in zip(*grid))
         s, t, bar = s / 1000, t / 1000, bar / 100
-        shown = panel(grid)
+        shown = panel((s, t, bar)) / 1000
         for peer, density in PEERS.items():
             off = density(s, t, 10 * bar) - shown
             far = int(numpy.argmax(abs(off)))
@@ -116,40 +113,49 @@ def main():
             if density is ferret:
                 worst = max(worst, abs(off[far]))
 
-    # the five next heavier waters of each, by the panel; only needles of 2 or more say which is heavier. And of all pairs the greatest needle
-    # at which a peer names the other water: from the first water, by the panel, that the peer has at least as heavy
+    # each set at three depths: what lies deeper is raised to the depth and compared with what lies above it. Near pairs are one of each, at most
+    # five apart by the panel; only needles of 2 or more say which is heavier. And of all such pairs the greatest needle at which a peer names the
+    # other water: from the first one of the other part, by the panel, that the peer has at least as heavy
     print("\n| waters | peer | near pairs with a needle of 2 or more | peer names the other water | of all pairs, at a needle of up to |")
     print("|---|---|---:|---:|---:|")
 
-    def heavier(name, shown, s, t, decibars, peers):
-        shown = numpy.round(1000 * shown).astype(int)
-        order = numpy.argsort(shown, kind="stable")
-        s, t, decibars = (numpy.asarray(column)[order] for column in (s, t, decibars))
-        needles = [(k, shown[order][k:] - shown[order][:-k]) for k in range(1, 6)]
+    def heavier(name, s, t, bar, deepest, peers):
+        near, other, most = 0, dict.fromkeys(peers, 0), dict.fromkeys(peers, 0)
+        for depth in (deepest / 4, deepest / 2, 3 * deepest / 4):
+            at = numpy.full(len(bar), depth)
+            shown = panel((s, t, at))
+            order = numpy.argsort(shown, kind="stable")
+            own, shown, low = numpy.array([s, t, numpy.minimum(bar, depth)])[:, order], shown[order], bar[order] >= depth
+            light, heavy = numpy.hstack([numpy.flatnonzero(low[k:] != low[:-k]) + [[0], [k]] for k in range(1, 6)])
+            needles = panel_needles(own[:, light], own[:, heavy])
+            assert (needles == shown[heavy] - shown[light]).all()
+            near += (needles >= 2).sum()
+            for peer in peers:
+                density = PEERS[peer](own[0], own[1], 10 * at)
+                other[peer] += ((needles >= 2) & (density[heavy] <= density[light])).sum()
+                for part in (low, ~low):
+                    first = numpy.searchsorted(numpy.maximum.accumulate(numpy.where(part, density, 0)), density[~part])
+                    most[peer] = max(most[peer], (shown[~part] - shown[numpy.minimum(first, len(shown) - 1)]).max())
         for peer in peers:
-            heavy = PEERS[peer](s, t, decibars)
-            other = numpy.concatenate([needle[(needle >= 2) & (heavy[k:] <= heavy[:-k])] for k, needle in needles])
-            first = numpy.searchsorted(numpy.maximum.accumulate(heavy), heavy)
-            most = (shown[order] - shown[order][first]).max()
-            print("| %s | %s | %d | %d | %s |" % (name, peer, sum((needle >= 2).sum() for _, needle in needles), len(other), most if most >= 2 else ""))
+            print("| %s | %s | %d | %d | %s |" % (name, peer, near, other[peer], most[peer] if most[peer] >= 2 else ""))
 
-    for name in (list(sets)[1], list(sets)[4], list(sets)[5]):
+    for name, deepest in ((list(sets)[1], 100), (list(sets)[4], 20), (list(sets)[5], 100)):
         s, t, bar = (numpy.array(column) for column in zip(*sets[name]))
-        heavier(name, panel(sets[name]), s / 1000, t / 1000, bar / 10, PEERS)
+        heavier(name, s / 1000, t / 1000, bar / 100, deepest, PEERS)
 
     # what the rounding of the input adds: the same waters as floats, the peer at the floats themselves
-    s, t, bar = (numpy.array(column) for column in zip(*floats_sent()))
-    shown = panel_floats(floats_sent())
+    sent = [numpy.array(column) for column in zip(*floats_sent())]
     first = list(PEERS)[0]
-    heavier("a hatchery's, as sent", shown, s, t, 10 * bar, [first])
-    print("\nA hatchery's waters as sent, %s at the floats: %.6f kg/m3 at most" % (first, abs(PEERS[first](s, t, 10 * bar) - shown).max()))
+    heavier("a hatchery's, as sent", *sent, 20, [first])
+    off = PEERS[first](sent[0], sent[1], 10 * sent[2]) - panel(sent) / 1000
+    print("\nA hatchery's waters as sent, %s at the floats: %.6f kg/m3 at most" % (first, abs(off).max()))
 
     print("\n| asked | panel | Ferret | TEOS-10, 75 terms | TEOS-10, Gibbs function |")
     print("|---|---|---:|---:|---:|")
     nan = float("nan")
     for what, s, t in (("salinity 50, 10 °C", 50.0, 10.0), ("salinity 35, 200 °C", 35.0, 200.0), ("salinity 35, temperature a NaN", 35.0, nan), ("salinity a NaN, 10 °C", nan, 10.0)):
         peers = [density([s], [t], [0.0])[0] for density in list(PEERS.values())[:3]]
-        print("| %s | %s | " % (what, panel_report(s, t, 0)) + " | ".join("%.3f" % value for value in peers) + " |")
+        print("| %s | refusal %d | " % (what, ask(b"c", "<I3f", "<6q", [(1, s, t, 0)])[0][0]) + " | ".join("%.3f" % value for value in peers) + " |")
 
     print("\nFerret's EOS-80 and the panel: %.6f kg/m3 at most" % worst)
     sys.exit(1 if worst > 0.0006 else 0)
