@@ -1,21 +1,17 @@
 -- `panel::answer` meets its contract: a side beside itself has the channel of what stands in it. Assumes nothing.
 use mathlib.Core.Path.{ap, ap₂, _∙_}
 use borrow.Author.Needs.{needs}
-use Rattle.panel.specs.Panel.{entered}
-use Rattle.panel.specs.Sides.{Placed, besideOf}
+use Rattle.panel.specs.Sides.{besideOf}
 use Rattle.panel.specs.declared.Side.{Side}
-use Rattle.panel.proofs.Sides.{entered-placed, channel-beside}
+use Rattle.panel.proofs.Sides.{placed, channel-beside}
 use Rattle.panel.proofs.answer.Statement.{statement}
 use Rattle.panel.proofs.answer.Tie as tie
 
 entered-requires : tie.Need-entered-requires
 entered-requires c κs = search needs
 
-placed : (c : tie.After-entered) → Placed (c .entered .result)
-placed c = rw (c .entered .ensures) (entered-placed (c .before .args .entry))
-
 beside-requires : tie.Need-beside-requires
-beside-requires c κs = (placed c, placed c)
+beside-requires c κs = let p = placed (c .before .args .entry) (c .entered .ensures) in (p, p)
 
 returns : tie.Need-returns
 returns c =

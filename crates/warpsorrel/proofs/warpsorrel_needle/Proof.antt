@@ -1,14 +1,13 @@
 -- `warpsorrel_needle` meets its contract: the sides of both reports, each beside the other, are their comparison. Assumes nothing.
-use mathlib.Core.Path.{_≡_, ap, ap₂, _∙_}
+use mathlib.Core.Path.{_≡_, ap, _∙_}
 use borrow.Author.Needs.{needs}
 use lib.Seq.{sets}
 use denote.Ref.{now}
 use Rattle.channels.specs.declared.Comparison.{Comparison}
 use Rattle.channels.specs.Numbers.{needleNumber}
 use Rattle.readings.specs.declared.Entry.{Entry}
-use Rattle.panel.specs.Panel.{entered, comparisonOf}
-use Rattle.panel.specs.Sides.{Placed, besideOf, comparedFrom}
-use Rattle.panel.proofs.Sides.{entered-placed, compared-beside}
+use Rattle.panel.specs.Panel.{entered}
+use Rattle.panel.proofs.Sides.{placed, compared}
 use Rattle.abi.specs.Abi.{entryOf, comparisonWords}
 use Rattle.warpsorrel.proofs.warpsorrel_needle.Statement.{statement}
 use Rattle.warpsorrel.proofs.warpsorrel_needle.Tie as tie
@@ -26,12 +25,6 @@ left-is c = c .entered .ensures ∙ ap entered (c .before .before .entry-of .ens
 right-is : (c : tie.After-entered2) → c .entered2 .result ≡ entered (right (c .before .before .before .before))
 right-is c = c .entered2 .ensures ∙ ap entered (c .before .before .entry-of2 .ensures)
 
-left-placed : (c : tie.After-entered) → Placed (c .entered .result)
-left-placed c = rw (left-is c) (entered-placed (left (c .before .before .before)))
-
-right-placed : (c : tie.After-entered2) → Placed (c .entered2 .result)
-right-placed c = rw (right-is c) (entered-placed (right (c .before .before .before .before)))
-
 entry-of-requires : tie.Need-entry-of-requires
 entry-of-requires c κs = search needs
 
@@ -45,26 +38,20 @@ entered-requires-2 : tie.Need-entered-requires-2
 entered-requires-2 c κs = search needs
 
 beside-requires : tie.Need-beside-requires
-beside-requires c κs = (left-placed (c .before), right-placed c)
+beside-requires c κs = let s = c .before .before .before .before in (placed (left s) (left-is (c .before)), placed (right s) (right-is c))
 
 beside-requires-2 : tie.Need-beside-requires-2
-beside-requires-2 c κs = (right-placed (c .before), left-placed (c .before .before))
+beside-requires-2 c κs = let s = c .before .before .before .before .before in (placed (right s) (right-is (c .before)), placed (left s) (left-is (c .before .before)))
 
 put-needle-requires : tie.Need-put-needle-requires
 put-needle-requires c κs = search needs
 
--- both sides, as they are handed on
-compared : (c : tie.After-beside2) → let b = c .before .before .before .before .before .before in comparedFrom (c .before .beside .result) (c .beside2 .result) ≡ comparisonOf (left b) (right b)
-compared c =
-    let b = c .before .before .before .before .before .before in
-    let l = left-is (c .before .before .before) in
-    let r = right-is (c .before .before) in
-    ap₂ comparedFrom (c .before .beside .ensures ∙ ap₂ besideOf l r) (c .beside2 .ensures ∙ ap₂ besideOf r l) ∙ compared-beside (left b) (right b)
-
 returns : tie.Need-returns
 returns c =
-    let e = compared (c .before .before) in
-    let out = c .before .before .before .before .before .before .before .before .args .out in
+    let b = c .before .before in
+    let s = b .before .before .before .before .before .before in
+    let e = compared (left s) (right s) (left-is (b .before .before .before)) (right-is (b .before .before)) (b .before .beside .ensures) (b .beside2 .ensures) in
+    let out = s .args .out in
     (c .put-needle .ensures .0 ∙ ap (λ (x : Comparison). needleNumber (x .needle)) e, c .put-needle .ensures .1 ∙ ap (λ (x : Comparison). sets (now out) 0 (comparisonWords x)) e)
 
 pub warpsorrel-needle-spec : {M : Type 1} → statement M
