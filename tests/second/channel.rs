@@ -62,6 +62,15 @@ impl Report {
         Report { kind, floats: [0, 1, 2].map(|place| in_range(place, random)) }
     }
 
+    /// At grid numbers, by any floats that are put there; at pressure 0 deep or surface.
+    pub fn at(numbers: [i64; 3], random: &mut Random) -> Report {
+        let report = Report { kind: 1, floats: [0, 1, 2].map(|place| put_on(place, numbers[place], random)) };
+        if numbers[2] == 0 && random.between(0, 1) == 0 {
+            return Report { kind: 2, ..report.with(2, in_range(2, random)) };
+        }
+        report
+    }
+
     pub fn with(mut self, place: usize, float: Float) -> Report {
         self.floats[place] = float;
         self
@@ -72,6 +81,15 @@ impl Report {
 fn in_range(place: usize, random: &mut Random) -> Float {
     let q = &QUANTITIES[place];
     Float::nearest(random.between(q.low << 40, q.high << 40).into(), 1 << 40)
+}
+
+/// A float of the place's range that is put on a grid number.
+fn put_on(place: usize, number: i64, random: &mut Random) -> Float {
+    let q = &QUANTITIES[place];
+    let hundredths = (100 * number + random.between(-49, 49)).clamp(100 * q.per_unit * q.low, 100 * q.per_unit * q.high);
+    let float = Float::nearest(hundredths.into(), (100 * q.per_unit).into());
+    assert_eq!(float.grid(q.per_unit), number);
+    float
 }
 
 fn request(report: &Report, bytes: &mut Vec<u8>) {

@@ -32,7 +32,7 @@ const ENDS: [(i64, i64); 3] = [(0, 42_000), (-2_000, 40_000), (0, 100_000)];
 
 /// What the papers print: shown densities in 0.001 kg/m3, and moduli in 10^-5 bar, of which the panel shows hundredths of a
 /// bar, rounded down.
-const DENSITIES: [(Reading, u32); 9] = [
+pub const DENSITIES: [(Reading, u32); 9] = [
     ([0, 5_000, 0], 999_967),
     ([0, 5_000, 100_000], 1_044_128),
     ([0, 25_000, 0], 997_048),

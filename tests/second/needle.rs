@@ -1,7 +1,8 @@
-//! The needle of two reports, each from one mixed bag; every pair is asked both ways round.
+//! The needle of two reports, both waters at the greater of the two pressures; every pair is asked both ways round.
 
 use crate::channel::{channel, Channel, Report, WRONG_KINDS};
 use crate::floats::{Float, INFINITE};
+use crate::grid::DENSITIES;
 use crate::panel::{long, Panel};
 use crate::random::Random;
 use crate::recipe::Formula;
@@ -13,13 +14,24 @@ type Pair = [Report; 2];
 /// A refusal's number, left density, right density, needle.
 type Reply = [i64; 4];
 
-fn expected(left: &Channel, right: &Channel) -> Reply {
+fn shown(formula: &Formula, [s, t]: [i64; 2], p: i64) -> i64 {
+    formula.water(s, t, p).unwrap().0.into()
+}
+
+/// Right minus left, both waters at one pressure.
+fn difference(formula: &Formula, left: &[i64; 5], right: &[i64; 5], p: i64) -> i64 {
+    let at = |[s, t, own, density, _]: [i64; 5]| if own == p { density } else { shown(formula, [s, t], p) };
+    at(*right) - at(*left)
+}
+
+/// The densities stand at their own pressures, the needle at the greater of the two.
+fn expected(formula: &Formula, left: &Channel, right: &Channel) -> Reply {
     let density = |c: &Channel| c.map_or(0, |five| five[3]);
     let (l, r) = (density(left), density(right));
     match (left, right) {
         (Err(n), _) => [100 + i64::from(*n), l, r, 0],
         (_, Err(n)) => [200 + i64::from(*n), l, r, 0],
-        _ => [0, l, r, r - l],
+        (Ok(a), Ok(b)) => [0, l, r, difference(formula, a, b, a[2].max(b[2]))],
     }
 }
 
@@ -34,6 +46,28 @@ fn request(pair: &Pair, bytes: &mut Vec<u8>) {
 
 fn replies(bytes: [u8; 64]) -> [Reply; 2] {
     [0, 4].map(|first| [0, 1, 2, 3].map(|i| long(&bytes, first + i)))
+}
+
+/// Needles between the waters that UNESCO prints at the surface and at 1,000 bar, by the printed densities alone.
+fn published(panel: &Panel, formula: &Formula) -> Tally {
+    let mut tally = Tally::new("needles of published values");
+    let mut random = Random(11);
+    let printed = |[s, t, _]: [i64; 3], p| i64::from(DENSITIES.iter().find(|x| x.0 == [s, t, p]).unwrap().1);
+    let mut pairs = Vec::new();
+    for (left, _) in &DENSITIES[..8] {
+        for (right, _) in &DENSITIES[..8] {
+            let deepest = left[2].max(right[2]);
+            let needle = printed(*right, deepest) - printed(*left, deepest);
+            let pair = [left, right].map(|at| Report::at(*at, &mut random));
+            pairs.push((pair, [0, printed(*left, left[2]), printed(*right, right[2]), needle]));
+        }
+    }
+    panel.ask(&pairs, |x, bytes| request(&x.0, bytes), |(pair, said), bytes| {
+        let [left, right] = pair.map(|report| channel(formula, &report));
+        tally.same(replies(bytes)[0], *said, pair);
+        tally.same(expected(formula, &left, &right), *said, pair);
+    });
+    tally
 }
 
 /// Deep and surface in range; missing, wrong kinds and refused floats, one bad place or several.
@@ -64,32 +98,113 @@ fn one_apart(random: &mut Random) -> Pair {
     [left, right]
 }
 
+fn depth(random: &mut Random) -> i64 {
+    [0, random.between(0, 1_200), random.between(0, 100_000)][random.between(0, 2) as usize]
+}
+
+fn water(random: &mut Random) -> [i64; 2] {
+    [random.between(0, 42_000), random.between(-2_000, 40_000)]
+}
+
+/// Two waters on the grid, alike, nearly as heavy or any; at one pressure, a step of it apart, or at any two.
+fn two_depths(random: &mut Random) -> Pair {
+    let ([s, t], p) = (water(random), depth(random));
+    let other = match random.between(0, 2) {
+        0 => [s, t],
+        1 => [(s + random.between(-4, 4)).clamp(0, 42_000), (t + random.between(-30, 30)).clamp(-2_000, 40_000)],
+        _ => water(random),
+    };
+    let other_p = match random.between(0, 3) {
+        0 => p,
+        1 => (p + [-1, 1][random.between(0, 1) as usize]).clamp(0, 100_000),
+        _ => depth(random),
+    };
+    [[s, t, p], [other[0], other[1], other_p]].map(|at| Report::at(at, random))
+}
+
+/// A colder and a warmer water, alike in density or nearly at a pressure between their two: the colder one is squeezed more, so that the
+/// needle turns there.
+fn turning(formula: &Formula, random: &mut Random) -> Pair {
+    let (one, p, q) = (water(random), depth(random), depth(random));
+    let (t, between) = (random.between(-2_000, 40_000), (p + q) / 2);
+    let heavy = shown(formula, one, between);
+    let (mut low, mut high) = (0, 42_000);
+    while low < high {
+        let middle = (low + high) / 2;
+        if shown(formula, [middle, t], between) < heavy {
+            low = middle + 1;
+        } else {
+            high = middle;
+        }
+    }
+    [[one[0], one[1], p], [low, t, q]].map(|at| Report::at(at, random))
+}
+
+/// The sorts of needles that have to be among those tried: each tells a wrong needle from the right one, or a law speaks of it.
+fn sorts(formula: &Formula, pair: &Pair, left: &[i64; 5], right: &[i64; 5], needle: i64) -> [(&'static str, bool); 14] {
+    let printed = right[3] - left[3];
+    let [at_left, at_right] = [left[2], right[2]].map(|p| difference(formula, left, right, p));
+    let at_lesser = if left[2] < right[2] { at_left } else { at_right };
+    let opposite = |n: i64| n.signum() * needle.signum() < 0;
+    let one_water = left[..2] == right[..2];
+    let unread = pair.iter().filter(|r| r.kind == 2 && r.floats[2].within(0, 1_000)).map(|r| r.floats[2].grid(100)).max();
+    let at_unread = unread.filter(|p| *p > left[2].max(right[2])).map(|p| difference(formula, left, right, p));
+    [
+        ("left heavier", needle < 0),
+        ("right heavier", needle > 0),
+        ("left deeper", left[2] > right[2]),
+        ("right deeper", left[2] < right[2]),
+        ("not the printed difference", printed != needle),
+        ("another at the lesser pressure", at_lesser != needle),
+        ("another at the left's", at_left != needle),
+        ("another at the right's", at_right != needle),
+        ("another at a pressure that is not read", at_unread.map_or(false, |n| n != needle)),
+        ("the printed difference the other way", opposite(printed)),
+        ("the lesser pressure the other way", opposite(at_lesser)),
+        ("one water at two depths", one_water && left[2] != right[2]),
+        ("two waters at one pressure", !one_water && left[2] == right[2]),
+        ("a step of pressure apart and not the printed difference", (left[2] - right[2]).abs() == 1 && printed != needle),
+    ]
+}
+
 pub fn all(panel: &Panel, formula: &Formula) -> Vec<Tally> {
     let mut random = Random(9);
-    let mut pairs: Vec<Pair> = (0..1_000_000).map(|_| [from_bag(&mut random), from_bag(&mut random)]).collect();
+    let mut pairs: Vec<Pair> = (0..600_000).map(|_| [from_bag(&mut random), from_bag(&mut random)]).collect();
     pairs.extend((0..200_000).map(|_| one_apart(&mut random)));
+    pairs.extend((0..400_000).map(|_| two_depths(&mut random)));
+    pairs.extend((0..50_000).map(|_| turning(formula, &mut random)));
 
     let mut tally = Tally::new("needles");
     let mut swapped = Tally::new("needles, sides swapped");
+    let mut none = Tally::new("needles of one water at two depths: 0");
+    let mut level = Tally::new("needles at one pressure: the printed difference");
     let mut seen = BTreeSet::new();
-    let (mut left_heavier, mut right_heavier) = (0, 0);
+    let mut counts = [("", 0); 14];
     panel.ask(&pairs, request, |pair, bytes| {
         let [one, other] = replies(bytes);
         let [left, right] = [0, 1].map(|i| channel(formula, &pair[i]));
-        let second = expected(&left, &right);
+        let second = expected(formula, &left, &right);
         tally.same(one, second, pair);
-        tally.same(other, expected(&right, &left), pair);
+        tally.same(other, expected(formula, &right, &left), pair);
         seen.extend([one[0], other[0]]);
-        if one[0] == 0 {
+        if let (Ok(l), Ok(r)) = (left, right) {
             swapped.same(other, [0, one[2], one[1], -one[3]], pair);
+            if l[..2] == r[..2] {
+                none.same(one[3], 0, pair);
+            }
+            if l[2] == r[2] {
+                level.same(one[3], one[2] - one[1], pair);
+            }
+            for (count, (sort, is_so)) in counts.iter_mut().zip(sorts(formula, pair, &l, &r, second[3])) {
+                *count = (sort, count.1 + u32::from(is_so));
+            }
         }
-        left_heavier += u32::from(second[3] < 0);
-        right_heavier += u32::from(second[3] > 0);
     });
-    assert!(left_heavier > 100_000 && right_heavier > 100_000, "too few needles off zero are tried");
+    println!("second program: needles tried: {}", counts.map(|(sort, count)| format!("{count} {sort}")).join(", "));
+    assert!(counts.iter().all(|count| count.1 > 10_000), "too few needles of a sort are tried");
 
     let mut refusals = Tally::new("refusals of needles, all seen");
     let all = BTreeSet::from([0, 101, 102, 103, 104, 105, 107, 201, 202, 203, 204, 205, 207]);
     refusals.same(seen, all, &"all pairs");
-    vec![tally, swapped, refusals]
+    vec![published(panel, formula), tally, swapped, none, level, refusals]
 }

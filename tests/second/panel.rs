@@ -27,8 +27,9 @@ impl Panel {
     pub fn ask<T: Send + Sync, const N: usize>(&self, items: &[T], request: fn(&T, &mut Vec<u8>), mut take: impl FnMut(&T, [u8; N])) {
         let mut driver = self.start();
         let mut to = BufWriter::with_capacity(1 << 16, driver.stdin.take().unwrap());
-        let mut from = BufReader::with_capacity(1 << 16, driver.stdout.take().unwrap());
-        std::thread::scope(|scope| {
+        let mut from = std::thread::scope(|scope| {
+            // Made in here, so that a panic closes it and the driver ends.
+            let mut from = BufReader::with_capacity(1 << 16, driver.stdout.take().unwrap());
             scope.spawn(move || {
                 let mut bytes = Vec::new();
                 for item in items {
@@ -43,6 +44,7 @@ impl Panel {
                 from.read_exact(&mut answer).expect("the driver stopped answering");
                 take(item, answer);
             }
+            from
         });
         let mut more = Vec::new();
         from.read_to_end(&mut more).unwrap();
