@@ -4,8 +4,8 @@
     python3 tests/calls.py COMMAND ...      the command that starts the driver (tests/driver.c)
 
 The version; pairs, pair and page on the hard streams of tests/streams.py and on longer ones; lines of every kind of entry, number and room,
-each with each; every kind of report; special floats in every rounding mode, with denormals kept and flushed. That nothing else is written is the
-driver's to see: it ends then, which counts as a difference.
+each with each; every kind of report; special floats, and waters at two depths, in every rounding mode, with denormals kept and flushed. That
+nothing else is written is the driver's to see: it ends then, which counts as a difference.
 """
 import random
 import struct
@@ -18,10 +18,10 @@ from typing import NamedTuple
 
 import model
 from model import CUT, LENGTH, LONGEST_PAGE, bits_of, channel, needle
-from streams import (ALL_KINDS, DEEP, HUGE, INFINITIES, LONGEST, MISSING, NANS, PLAIN, SURFACE, TINY, ZEROS, any_record, covered, deep,
-                     halves, hard_streams, made, specials, surface)
+from streams import (ALL_KINDS, DEEP, HUGE, INFINITIES, LONGEST, MISSING, NANS, PLAIN, SURFACE, TINY, ZEROS, any_record, covered, depth_pairs,
+                     halves, hard_streams, made, record_of, specials)
 
-VERSION = 1
+VERSION = 2
 SHORTEST_ROOM = 32  # for a line
 NOWHERE = 2**64 - 1  # for a length or a room: NULL, and 0 bytes
 PATIENCE = 300  # seconds after which a driver counts as hanging
@@ -194,16 +194,12 @@ def mode_reports(rng):
     yield from ((1, *(rng.choice(hardest if rng.random() < 0.5 else specials(i)) for i in range(3))) for _ in range(400))
 
 
-def record_of(kind, s, t, p):
-    return deep(s, t, p) if kind == 1 else surface(s, t)
-
-
 def mode_calls(reports):
     """A batch for each mode. The recorder divides in the mode that it finds, so it is held to the model to nearest alone."""
     plain = (1, *PLAIN)
     records = [record_of(*report) for report in reports]
     calls = [version_call(), *(channel_call(report) for report in reports)]
-    for left, right in [*zip(reports, repeat(plain)), *zip(repeat(plain), reports)]:
+    for left, right in [*zip(reports, repeat(plain)), *zip(repeat(plain), reports), *depth_pairs()]:
         calls += [needle_call(left, right), line_call(9_999, left, right, SHORTEST_ROOM)]
     for stream in (r + DEEP for r in records):
         calls += [stream_call(stream), pairs_call(model.pairs(stream)), pair_call(model.pairs(stream), 0)]
@@ -299,8 +295,8 @@ def main():
     for text in told[:10]:
         print(text)
     print(
-        f"calls: {len(streams)} streams, {counts['pair']} pairs, {counts['line']} lines, {counts['page']} pages,"
-        f" {counts['channel']} readings, some in {len(MODES)} float modes, {len(told)} different"
+        f"calls: {len(streams)} streams, {counts['pair']} pairs, {counts['line']} lines, {counts['page']} pages, {counts['channel']} readings,"
+        f" {counts['needle']} needles, some in {len(MODES)} float modes, {len(told)} different"
     )
     sys.exit(1 if told else 0)
 

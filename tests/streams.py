@@ -1,8 +1,9 @@
-"""Streams that are hard on a reader: every cut, kind and length, bad floats in every place, knife edges, seeded random ones."""
+"""Streams that are hard on a reader: every cut, kind and length, bad floats in every place, knife edges, waters at two depths, seeded random
+ones."""
 import random
 import struct
 
-from model import EXAMPLE, LONGEST_PAGE, QUANTITIES, bits_of, needle, page, pairs
+from model import EXAMPLE, LONGEST_PAGE, QUANTITIES, bits_of, needle, needle_at, page, pairs
 
 RANDOM_STREAMS = 1_300
 
@@ -19,10 +20,14 @@ def surface(s, t):
     return made(2, struct.pack("<II", s, t))
 
 
+def record_of(kind, s, t, p):
+    return deep(s, t, p) if kind == 1 else surface(s, t)
+
+
 MISSING = made(3, b"")
-# A water for every place: salinity 35, temperature 5, pressure 250.
+# A water for every place: salinity 35, temperature 5, pressure 250. At the surface stands another, so that the two have a needle.
 PLAIN = [bits_of(x) for x in (35, 5, 250)]
-DEEP, SURFACE = deep(*PLAIN), surface(*PLAIN[:2])
+DEEP, SURFACE = deep(*PLAIN), surface(bits_of(31), bits_of(9))
 
 NANS = [0x7FC00000, 0xFFC00000, 0x7F800001, 0xFF800001, 0x7FFFFFFF, 0xFFFFFFFF, 0x7FBFFFFF]
 INFINITIES = [0x7F800000, 0xFF800000]
@@ -173,6 +178,50 @@ def knife_edges():
     return both_sides(waters)
 
 
+# Pairs of waters, in grid numbers, whose needle hangs on the pressure that both are put to.
+DEPTHS = {
+    "one water": [
+        ((35000, 5000, 40), (35000, 5000, 900)), ((0, 3980, 0), (0, 3980, 100000)), ((42000, 40000, 0), (42000, 40000, 1)),
+        ((14833, 30336, 65051), (14833, 30336, 65052)),
+    ],
+    "one pressure": [
+        ((0, 5000, 0), (35000, 5000, 0)), ((33900, 8150, 900), (33900, 8160, 900)), ((42000, -2000, 100000), (0, 40000, 100000)),
+    ],
+    "the printed difference the other way": [
+        ((40822, 14740, 0), (40823, 14760, 1085)), ((38677, 11393, 765), (38676, 11408, 830)), ((35864, 22502, 617), (35860, 22507, 1116)),
+        ((7419, 22365, 0), (7422, 22390, 49906)), ((17942, 13956, 75), (17945, 13976, 20285)),
+    ],
+    "the lesser pressure the other way": [
+        ((22321, 26549, 0), (16713, 2462, 62)), ((14115, 23451, 0), (12671, 18929, 691)), ((5836, 37530, 156), (1945, 28862, 913)),
+        ((27473, 33767, 786), (28066, 34932, 31845)), ((803, 613, 0), (11736, 33407, 85310)),
+    ],
+    "a step of pressure": [
+        ((19257, 20287, 35872), (19255, 20294, 35873)), ((3920, 3762, 18854), (3917, 3753, 18855)), ((22144, 2326, 61936), (22144, 2318, 61937)),
+    ],
+    "far apart": [((42000, -2000, 0), (0, 40000, 100000)), ((42000, -2000, 100000), (0, 40000, 0))],
+}
+
+
+def reports(s, t, p):
+    """A water on the grid as its probe may report it; at the surface with a pressure that is not read too."""
+    salinity, temperature = bits_of(s / 1_000), bits_of(t / 1_000)
+    deep_report, surface_report = (1, salinity, temperature, bits_of(p / 100)), (2, salinity, temperature, bits_of(1_000))
+    return [deep_report, surface_report] if p == 0 else [deep_report]
+
+
+def depth_pairs(*sorts):
+    """Two reports each, both ways round; of some sorts or of all."""
+    for one, other in (pair for sort in sorts or DEPTHS for pair in DEPTHS[sort]):
+        for left in reports(*one):
+            for right in reports(*other):
+                yield from ((left, right), (right, left))
+
+
+def depths():
+    """A stream for each sort."""
+    return [b"".join(record_of(*report) for pair in depth_pairs(sort) for report in pair) for sort in DEPTHS]
+
+
 def sizes(rng):
     mixture = (DEEP + SURFACE + MISSING + made(9, b"xyz")) * 5_000
     for n in (1, 59_999, 60_000, 60_001, 60_002, 65_535, 65_536, 65_537, 200_000):
@@ -185,7 +234,7 @@ def sizes(rng):
 
 # Every pair needs 8 bytes at least, but a cut last one, and a longer record never pays for the line it costs.
 LONGEST = MISSING * 15_000
-WIDEST_LINES = (deep(bits_of(42), bits_of(-2), bits_of(1_000)) + deep(0, bits_of(40), 0)) * 1_875
+WIDEST_LINES = (deep(bits_of(42), bits_of(-2), bits_of(1_000)) + deep(0, bits_of(40), bits_of(1_000))) * 1_875
 
 
 def any_float(place, rng):
@@ -257,7 +306,7 @@ def hard_streams():
     yield from (EXAMPLE[:n] for n in range(len(EXAMPLE) + 1))
     for whole in (ALL_KINDS, MISSING + ALL_KINDS):
         yield from (whole[:n] for n in range(len(whole) + 1))
-    for part in (heads(), every_kind(), trailing(), refusal_order(rng), float_streams(rng), knife_edges(), sizes(rng)):
+    for part in (heads(), every_kind(), trailing(), refusal_order(rng), float_streams(rng), knife_edges(), depths(), sizes(rng)):
         yield from part
     yield from (LONGEST, LONGEST[4:], LONGEST + b"\0", WIDEST_LINES, WIDEST_LINES[16:])
     yield from (SURFACE * n for n in (1, 2, 3, 7, 99, 2_499, 5_000))
@@ -265,8 +314,17 @@ def hard_streams():
     yield from (any_stream(rng) for _ in range(RANDOM_STREAMS))
 
 
+# Of two accepted channels.
+WRONG_NEEDLES = {
+    "the printed difference": lambda left, right: right.density - left.density,
+    "at the lesser pressure": lambda left, right: needle_at(left, right, min(left.pi, right.pi)),
+    "at the left's pressure": lambda left, right: needle_at(left, right, left.pi),
+    "at the right's pressure": lambda left, right: needle_at(left, right, right.pi),
+}
+
+
 def covered(every):
-    """Every refusal number on either side and every sign of a needle is among what is tried."""
+    """Every refusal number on either side and every sign of a needle is among what is tried, and where each wrong needle lies the other way."""
     found = set()
     for stream in every:
         if len(stream) <= 60_000:
@@ -276,6 +334,9 @@ def covered(every):
     wanted = {(side, n) for side in ("left", "right") for n in range(9)}
     wanted |= {("needle", n) for n in (-1, 0, 1, *range(101, 109), *range(201, 209))}
     assert found == wanted, found ^ wanted
+    two_depths = [pair for stream in set(depths()) & set(every) for pair in pairs(stream)]
+    for name, wrong in WRONG_NEEDLES.items():
+        assert {sign for sign in (-1, 1) for pair in two_depths if needle(*pair).value * sign > 0 > wrong(*pair) * sign} == {-1, 1}, name
     late = [(left, right) for stream in every if len(stream) <= 60_000 for left, right in pairs(stream)[7_400:] if not left.refusal and not right.refusal]
     assert {(n > 0) - (n < 0) for left, right in late for _, n in [needle(left, right)]} >= {-1, 1}
     assert len(page(LONGEST)) == LONGEST_PAGE and page(LONGEST).endswith(b"\n7500 R1 R1 R101\n")
