@@ -1,5 +1,6 @@
 /* The driver's panel with one fault, to see that tests/calls.py finds it. Linked with --wrap for main and for every function below; the
  * driver's first argument is the fault's name, as it stands in has() here. Without one nothing is changed. */
+#include <stdio.h>
 #include <string.h>
 #include <xmmintrin.h>
 #include "warpsorrel.h"
@@ -43,18 +44,70 @@ uint32_t __wrap_warpsorrel_channel(uint32_t kind, float salinity, float temperat
     return __real_warpsorrel_channel(kind, salinity, temperature, pressure, out);
 }
 
-uint32_t __wrap_warpsorrel_needle(uint32_t lk, float ls, float lt, float lp, uint32_t rk, float rs, float rt, float rp, int64_t out[3]) {
-    if (has("needle: the right's temperature rounded in the mode there is") && (rt > 1 || rt < -1)) rt = rt + little;
-    return __real_warpsorrel_needle(lk, ls, lt, lp, rk, rs, rt, rp, out);
-}
-
 float __wrap_warpsorrel_recorder(uint32_t shown) {
     if (has("recorder: ends one early") && shown == 16383999) return 0;
     if (has("recorder: 0 where denormals are flushed") && flushing()) return 0;
     return __real_warpsorrel_recorder(shown);
 }
 
-/* ---- lines */
+/* ---- needles: sigma, tau, pi, density and bulk modulus of two accepted readings */
+
+static int64_t needle_at(const int64_t l[5], const int64_t r[5], int64_t pi) {
+    return (int64_t)warpsorrel_density(r[0], r[1], pi) - (int64_t)warpsorrel_density(l[0], l[1], pi);
+}
+
+static int64_t lesser(const int64_t l[5], const int64_t r[5]) {
+    return l[2] < r[2] ? l[2] : r[2];
+}
+
+static int64_t greater(const int64_t l[5], const int64_t r[5]) {
+    return l[2] > r[2] ? l[2] : r[2];
+}
+
+uint32_t __wrap_warpsorrel_needle(uint32_t lk, float ls, float lt, float lp, uint32_t rk, float rs, float rt, float rp, int64_t out[3]) {
+    int64_t l[5], r[5];
+    if (has("needle: the right's temperature rounded in the mode there is") && (rt > 1 || rt < -1)) rt = rt + little;
+    uint32_t refusal = __real_warpsorrel_needle(lk, ls, lt, lp, rk, rs, rt, rp, out);
+    if (refusal) return refusal;
+    __real_warpsorrel_channel(lk, ls, lt, lp, l);
+    __real_warpsorrel_channel(rk, rs, rt, rp, r);
+    if (has("needle: the difference of the printed densities")) out[2] = out[1] - out[0];
+    if (has("needle: at the lesser pressure")) out[2] = needle_at(l, r, lesser(l, r));
+    if (has("needle: at the left's pressure")) out[2] = needle_at(l, r, l[2]);
+    if (has("needle: at the right's pressure")) out[2] = needle_at(l, r, r[2]);
+    if (has("needle: at the surface")) out[2] = needle_at(l, r, 0);
+    if (has("needle: the left's water on both sides")) out[2] = needle_at(l, l, greater(l, r));
+    if (has("needle: the left density at the common pressure")) out[0] = warpsorrel_density(l[0], l[1], greater(l, r));
+    if (has("needle: the right density at the common pressure")) out[1] = warpsorrel_density(r[0], r[1], greater(l, r));
+    return 0;
+}
+
+/* ---- texts */
+
+/* Another text in the place of the one that was written; past it the bytes are as the driver lends them. */
+static void put(uint8_t *out, size_t *count, const char *text) {
+    memset(out, 0x5a, *count);
+    *count = strlen(text);
+    memcpy(out, text, *count);
+}
+
+/* Each needle becomes the difference of the densities that stand beside it. */
+static void subtract(uint8_t *out, size_t *count) {
+    static char text[WARPSORREL_PAGE + 64];
+    size_t n = 0;
+    text[0] = 0;
+    for (size_t at = 0, end; at < *count; at = end) {
+        char line[64] = "";
+        long number, left, right, needle;
+        for (end = at; out[end++] != '\n';) {}
+        memcpy(line, out + at, end - at);
+        if (sscanf(line, "%ld %ld %ld %ld", &number, &left, &right, &needle) == 4) {
+            sprintf(line, "%ld %ld %ld %ld\n", number, left, right, right - left);
+        }
+        n += sprintf(text + n, "%s", line);
+    }
+    put(out, count, text);
+}
 
 uint32_t __wrap_warpsorrel_line(uint32_t number, uint32_t lk, float ls, float lt, float lp, uint32_t rk, float rs, float rt, float rp,
                                 uint8_t *out, size_t room, size_t *count) {
@@ -74,6 +127,17 @@ uint32_t __wrap_warpsorrel_line(uint32_t number, uint32_t lk, float ls, float lt
     if (has("line: a wrong length refused by 6") && lk == WARPSORREL_LENGTH) lk = WARPSORREL_CUT;
     if (has("line: a surface's pressure read") && rk == WARPSORREL_SURFACE && rp != rp) rk = WARPSORREL_DEEP;
     uint32_t refusal = __real_warpsorrel_line(number, lk, ls, lt, lp, rk, rs, rt, rp, out, room, count);
+    int64_t l[5], r[5];
+    if (!refusal && !__real_warpsorrel_channel(lk, ls, lt, lp, l) && !__real_warpsorrel_channel(rk, rs, rt, rp, r)) {
+        char text[64];
+        long left = l[3], right = r[3], is = needle_at(l, r, greater(l, r)), needle = is;
+        if (has("line: the difference of the printed densities")) needle = right - left;
+        if (has("line: the needle at the lesser pressure")) needle = needle_at(l, r, lesser(l, r));
+        if (has("line: the left density at the common pressure")) left = warpsorrel_density(l[0], l[1], greater(l, r));
+        if (has("line: the right density at the common pressure")) right = warpsorrel_density(r[0], r[1], greater(l, r));
+        sprintf(text, "%u %ld %ld %ld\n", number, left, right, needle);
+        if (left != l[3] || right != r[3] || needle != is) put(out, count, text);
+    }
     if (has("line: refused, and a byte written") && refusal && room) out[0] = '0';
     if (has("line: refused, and the count not written") && refusal) *count = was;
     if (has("line: one byte fewer counted") && !refusal) *count -= 1;
@@ -107,6 +171,7 @@ uint32_t __wrap_warpsorrel_pair(const uint8_t *stream, size_t length, size_t bef
     if (has("pair: the left's bulk modulus for the right")) out[5] = out[2];
     if (has("pair: the left's density for the right")) out[4] = out[1];
     if (has("pair: the needle of right and left")) out[7] = -out[7];
+    if (has("pair: the difference of the printed densities") && !out[6]) out[7] = out[4] - out[1];
     if (has("pair: none, and the words not written") && !there) memcpy(out, was, sizeof was);
     if (has("pair: a ninth word")) out[eight] = 0;
     if (has("pair: the stream changed") && length) ((uint8_t *)stream)[length / 2] ^= 1;
@@ -121,6 +186,7 @@ uint32_t __wrap_warpsorrel_page(const uint8_t *stream, size_t length, uint8_t *o
     if (has("page: none where it rounds to zero") && rounding(3)) length = 0;
     if (has("page: 60,001 bytes have a page") && length == 60001) length -= 1;
     uint32_t refusal = __real_warpsorrel_page(stream, length, out, room, count);
+    if (has("page: the difference of the printed densities") && !refusal) subtract(out, count);
     if (has("page: the byte past its end touched") && !refusal) out[*count] = 0;
     if (has("page: the byte before its start touched") && room) out[-1] = 0;
     if (has("page: refused, and the last byte written") && refusal && room) out[room - 1] = 0;

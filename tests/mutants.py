@@ -13,7 +13,7 @@ from concurrent.futures import ThreadPoolExecutor
 from pathlib import Path
 
 from calls import ENTRIES, differences, line_calls, long_streams, mode_calls, mode_reports, stream_calls
-from streams import LONGEST, hard_streams
+from streams import LONGEST, depths, hard_streams
 
 WORKERS = 2
 
@@ -22,7 +22,7 @@ def some_batches():
     """For a driver each, so that the rest is not asked once a fault is found."""
     rng = random.Random(60)
     short = [stream for stream in dict.fromkeys(hard_streams()) if len(stream) < 2_000]
-    some = rng.sample(short, 60) + [LONGEST, LONGEST + b"\0"] + list(long_streams(rng))[-10:]
+    some = rng.sample(short, 60) + [*depths(), LONGEST, LONGEST + b"\0"] + list(long_streams(rng))[-10:]
     yield list(stream_calls(some))
     yield list(line_calls(ENTRIES[::2] + ENTRIES[-8:]))
     yield from mode_calls(rng.sample(list(mode_reports(rng)), 400))
