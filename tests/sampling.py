@@ -1,17 +1,20 @@
 #!/usr/bin/env python3
-"""Samples how near the compiled panel stays to the published formula, in whole numbers and fractions; no float is used.
+"""Samples how near the compiled panel stays to the published formula, in whole numbers and fractions; floats only carry grid numbers.
 
     python3 tests/sampling.py COMMAND ...      the command that starts the driver (tests/driver.c)
 
 The formula is that of Millero and Poisson (1981) and of Millero, Chen, Bradshaw and Schleicher (1980), as UNESCO Technical
 Papers in Marine Science 38 and 44 print it, in practical salinity, degrees C and bar. It is first held to the values these
-papers print. Its root is tried at both ends that the panel's whole root leaves open, and at the true root to 40 digits.
+papers print. Its root is tried at both ends that the panel's whole root leaves open, and at the true root to 40 digits. A needle is
+held to the formula's difference with both waters at the greater of their pressures.
 """
 import random
 import struct
 import subprocess
 import sys
 from fractions import Fraction
+from functools import lru_cache
+from itertools import product
 from math import isqrt
 
 SALINITIES, TEMPERATURES, PRESSURES = (0, 42_000), (-2_000, 40_000), (0, 100_000)
@@ -44,34 +47,33 @@ B_M = row("-9.9348e-7 2.0816e-8 9.1697e-10")
 
 
 class Water:
-    """The formula at grid numbers: the density at the surface in units of 10^-72 and the modulus in units of 10^-74, each a
-    number and the number by which a root is multiplied; the pressure in units of 10^-74 bar."""
+    """The formula at grid numbers: the density at the surface in units of 10^-72 and, by the power of the pressure, the parts of the
+    modulus in units of 10^-74; each a number and, where there is one, the number by which a root is multiplied."""
 
-    def __init__(self, sigma, tau, pi):
+    def __init__(self, sigma, tau):
         powers = [tau**i * 1_000 ** (5 - i) for i in range(6)]
 
         def at(coefficients):  # units of 10^-30
             return sum(c * x for c, x in zip(coefficients, powers))
 
-        self.sigma = sigma
-        self.pressure = pi * 10**72
+        self.sigma, self.tau = sigma, tau
         self.surface = (at(RHO_W) * 10**6 + sigma * at(RHO_A) * 10**3 + sigma**2 * at(RHO_C)) * 10**36, sigma * at(RHO_B)
-        self.modulus = (
-            ((at(K_W) * 10**3 + sigma * at(K_F)) * 10**4
-             + pi * (at(A_W) * 10**3 + sigma * at(A_I)) * 10**2
-             + pi**2 * (at(B_W) * 10**3 + sigma * at(B_M))) * 10**37,
-            sigma * (at(K_G) * 10**2 + pi * at(A_J)),
+        self.parts = (
+            ((at(K_W) * 10**3 + sigma * at(K_F)) * 10**41, sigma * at(K_G) * 10**2),
+            ((at(A_W) * 10**3 + sigma * at(A_I)) * 10**39, sigma * at(A_J)),
+            (at(B_W) * 10**3 + sigma * at(B_M)) * 10**37,
         )
 
-    def bulk(self, root):
+    def bulk(self, pi, root):
         """In units of 10^-74 bar."""
-        return self.modulus[0] + self.modulus[1] * root
+        (a, b), (c, d), e = self.parts
+        return a + pi * (c + pi * e) + (b + pi * d) * root
 
-    def density(self, root):
+    def density(self, pi, root):
         """A fraction, in units of 10^-72 kg/m3: the pair of its whole numbers, the lower one above 0."""
-        k = self.bulk(root)
-        assert k > self.pressure
-        return (self.surface[0] + self.surface[1] * root) * k, k - self.pressure
+        k, pressure = self.bulk(pi, root), pi * 10**72
+        assert k > pressure
+        return (self.surface[0] + self.surface[1] * root) * k, k - pressure
 
     def open_roots(self):
         """Both ends w/100000 and (w+1)/100000, w the greatest whole number whose square is at most sigma times 100,000."""
@@ -83,8 +85,9 @@ class Water:
         r = isqrt(self.sigma * 10**75)
         return r, r + 1
 
-    def roots(self):
-        return self.open_roots() + self.true_root()
+    def densities(self, pi):
+        """At the open roots, then at the true one's ends."""
+        return [self.density(pi, root) for root in self.open_roots() + self.true_root()]
 
 
 def rounded(n, d):
@@ -118,19 +121,19 @@ def held_to_the_papers():
         else:
             wrong.append(f"the papers print {text} at {at}, the formula gives {value} units of 10^-5")
 
-    def density(water, root):
-        n, d = water.density(root)
-        return rounded(n, d * 10**67)
+    def both(s, t, p):
+        """Modulus and density in units of 10^-5, at both ends of the true root the same."""
+        water, pi = Water(s * 1_000, t * 1_000), p * 100
+        moduli = {rounded(water.bulk(pi, root), 10**69) for root in water.true_root()}
+        densities = {rounded(n, d * 10**67) for n, d in water.densities(pi)[2:]}
+        assert len(moduli) == len(densities) == 1
+        return moduli.pop(), densities.pop()
 
-    for s, t, p, modulus, printed in PRINTED:
-        water = Water(s * 1_000, t * 1_000, p * 100)
-        low, high = water.true_root()
-        assert density(water, low) == density(water, high) and rounded(water.bulk(low), 10**69) == rounded(water.bulk(high), 10**69)
-        hold(modulus, rounded(water.bulk(low), 10**69), 0, (s, t, p))
-        hold(printed, density(water, low), 0, (s, t, p))
-    s, t, p, printed = BY_ROUTINE
-    water = Water(s * 1_000, t * 1_000, p * 100)
-    hold(printed, density(water, water.true_root()[0]), 1, (s, t, p))
+    for *at, modulus, density in PRINTED:
+        hold(modulus, both(*at)[0], 0, at)
+        hold(density, both(*at)[1], 0, at)
+    *at, density = BY_ROUTINE
+    hold(density, both(*at)[1], 1, at)
     assert held + len(wrong) == 17
     return held, wrong
 
@@ -145,6 +148,26 @@ def asked(command, readings):
     return {r: (density, bulk) for r, (_, density, bulk) in zip(readings, said)}
 
 
+@lru_cache(maxsize=None)
+def sent(number, steps):
+    """A float that is put on a grid number."""
+    x = struct.unpack("<f", struct.pack("<f", number / steps))[0]
+    n, d = x.as_integer_ratio()
+    assert rounded(n * steps, d) == number
+    return x
+
+
+def needles(command, pairs):
+    """The panel's needle of each pair; at pressure 0 by surface reports."""
+    def report(sigma, tau, pi):
+        return struct.pack("<I3f", 1 if pi else 2, sent(sigma, 1_000), sent(tau, 1_000), sent(pi, 100))
+
+    requests = b"".join(b"n" + report(*left) + report(*right) for left, right in pairs)
+    answers = subprocess.run(command, input=requests, stdout=subprocess.PIPE, check=True).stdout
+    assert len(answers) == 32 * len(pairs)
+    return list(struct.iter_unpack("<4q", answers))
+
+
 def sampled(rng):
     """Corners and seeded readings: each number at an end, one off it, or anywhere."""
     boxes = (SALINITIES, TEMPERATURES, PRESSURES)
@@ -157,9 +180,32 @@ def sampled(rng):
 
 
 def neighbour(reading, rng):
-    """A water nearly as heavy: a few steps along each way or some."""
-    steps = [rng.randint(-4, 4), rng.choice([0, rng.randint(-30, 30)]), rng.choice([0, rng.randint(-12, 12)])]
-    return tuple(min(max(x + d, low), high) for x, d, (low, high) in zip(reading, steps, (SALINITIES, TEMPERATURES, PRESSURES)))
+    """A water nearly as heavy, were both at one pressure: a few steps of salinity and temperature away, at about the same pressure or at any."""
+    sigma, tau, pi = reading
+    pressure = rng.choice([pi, pi + rng.randint(-12, 12), 0, rng.randint(*PRESSURES)])
+    near = sigma + rng.randint(-4, 4), tau + rng.choice([0, rng.randint(-30, 30)]), pressure
+    return tuple(min(max(x, low), high) for x, (low, high) in zip(near, (SALINITIES, TEMPERATURES, PRESSURES)))
+
+
+# Two waters and the pressure that both are put to, found by search: a needle of 2 and one of 1, each about as far from the formula's difference as
+# it comes. At 1 the formula may have the two in the other order.
+BY_TWO = [
+    ((41629, -1164), (41581, -1895), 0), ((41542, 22), (41405, -1756), 1), ((41579, 2736), (41123, -1965), 40),
+    ((41339, -1447), (41342, -1422), 905), ((41799, -597), (41657, -1770), 13491), ((41853, -1451), (41736, -1995), 43386),
+    ((41664, -1599), (41953, -717), 77003), ((41890, 7), (41639, -635), 99999), ((41406, -1412), (41508, -1151), 100000),
+]
+BY_ONE = [
+    ((41629, -1164), (41581, -1875), 0), ((41877, 224), (41741, -1332), 905), ((41581, -1501), (41558, -1640), 27601),
+    ((41828, -1135), (41594, -1957), 64126), ((41988, 637), (41110, -1606), 99999),
+]
+
+
+def hard_pairs(rng):
+    """Those above, both ways round: one at the pressure, the other there, at the surface or anywhere between."""
+    for one, other, pi in BY_TWO + BY_ONE:
+        for lesser in (pi, 0, rng.randint(0, pi)):
+            for left, right in ((one + (pi,), other + (lesser,)), (one + (lesser,), other + (pi,))):
+                yield from ((left, right), (right, left))
 
 
 def step(reading, place, high):
@@ -169,6 +215,12 @@ def step(reading, place, high):
 
     low = min(reading[place], high - 1)
     return at(low), at(low + 1)
+
+
+def level(pair):
+    """Both waters at the greater of their pressures."""
+    pi = max(r[2] for r in pair)
+    return tuple((*r[:2], pi) for r in pair)
 
 
 def minus(a, b):
@@ -195,23 +247,23 @@ def main():
     readings = sampled(rng)
     saltier = [step(r, 0, SALINITIES[1]) for r in readings]
     deeper = [step(r, 2, PRESSURES[1]) for r in readings]
-    near = [neighbour(r, rng) for r in readings]
-    pairs = list(zip(readings, near)) + list(zip(readings, readings[1:]))
-    every = sorted({*readings, *near, *(r for s in saltier + deeper for r in s)})
+    pairs = [(r, neighbour(r, rng)) for r in readings] + list(zip(readings, readings[1:])) + list(hard_pairs(rng))
+    levels = [level(pair) for pair in pairs]
+    every = sorted({*readings, *(r for some in (saltier, deeper, pairs, levels) for pair in some for r in pair)})
     shown = asked(command, every)
 
     # Each water once: its shown density, in units of 10^-72, against the formula at every root.
-    densities, largest = {}, (0, 1)
-    for r in every:
+    densities, largest, water = {}, (0, 1), Water(*every[0][:2])
+    for r in every:  # in order, so that one water's pressures follow each other
         density, bulk = shown[r]
-        water = Water(*r)
-        densities[r] = [water.density(root) for root in water.roots()]
+        water = water if r[:2] == (water.sigma, water.tau) else Water(*r[:2])
+        densities[r] = water.densities(r[2])
         for n, d in densities[r]:
             error = abs(density * 10**69 * d - n), d
             largest = error if below(largest, error) else largest
             if error[0] > 6 * 10**68 * d:
                 wrong.append(f"at {r} the panel shows {density}, over 0.0006 from the formula")
-        if bulk <= r[2] or any(water.bulk(root) <= water.pressure for root in water.roots()):
+        if bulk <= r[2]:
             wrong.append(f"at {r} the bulk modulus is not above the pressure")
 
     # One step saltier or deeper: never lighter as shown. The formula's step is the least between the true roots' ends.
@@ -231,29 +283,33 @@ def main():
         if least[name][0] <= 0:
             wrong.append(f"the formula has a step {name} that is not heavier")
 
-    # Pairs: a needle of 2 or more agrees with the formula whichever root each water takes; every needle's size does.
-    decided, by_two, worst = 0, 0, (0, 1)
-    for left, right in pairs:
-        needle = shown[right][0] - shown[left][0]
+    # Pairs, both waters at the greater pressure: a needle of 2 or more agrees with the formula whichever root each water takes; every
+    # needle's size does.
+    decided, by_two, turned, one_is_few, worst = 0, 0, 0, False, (0, 1)
+    for (left, right), (l, r), (refusal, *printed, needle) in zip(pairs, levels, needles(command, pairs)):
+        if refusal or printed != [shown[left][0], shown[right][0]] or needle != shown[r][0] - shown[l][0]:
+            wrong.append(f"left {left}, right {right}: not what the panel says of each water alone: {refusal}, {printed}, {needle}")
         decided += abs(needle) >= 2
         by_two += abs(needle) == 2
-        for a in densities[left]:
-            for b in densities[right]:
-                difference, d = minus(b, a)
-                if abs(needle) >= 2 and difference * needle <= 0:
-                    wrong.append(f"left {left}, right {right}: the needle is {needle}, the formula says otherwise")
-                error = abs(needle * 10**69 * d - difference), d
-                worst = error if below(worst, error) else worst
-                if error[0] > 12 * 10**68 * d:
-                    wrong.append(f"left {left}, right {right}: the needle {needle} is over 0.0012 from the formula")
-    if decided <= len(pairs) // 2 or by_two <= 1_000:
-        wrong.append("too few needles of 2 or more were seen")
+        turned += abs(needle) >= 2 and (printed[1] - printed[0]) * needle < 0
+        for a, b in product(densities[l], densities[r]):
+            difference, d = minus(b, a)
+            if abs(needle) >= 2 and difference * needle <= 0:
+                wrong.append(f"left {left}, right {right}: the needle is {needle}, the formula says otherwise")
+            one_is_few |= abs(needle) == 1 and difference * needle < 0
+            error = abs(needle * 10**69 * d - difference), d
+            worst = error if below(worst, error) else worst
+            if error[0] > 12 * 10**68 * d:
+                wrong.append(f"left {left}, right {right}: the needle {needle} is over 0.0012 from the formula")
+    if decided <= len(pairs) // 2 or by_two <= 1_000 or turned <= 10_000 or not one_is_few:
+        wrong.append("too few needles of 2 or more were seen, or none of 1 that the formula turns")
 
     for line in wrong[:10]:
         print("sampling:", line)
     print(
         f"sampling: {held} printed values held; {len(readings)} readings and their neighbours, {len(every)} waters, {len(pairs)} pairs"
-        f" ({decided} decided, {by_two} of them by 2); in 10^-6 kg/m3: largest error {in_millionths(largest)},"
+        f" ({decided} decided, {by_two} of them by 2, {turned} against the printed densities); in 10^-6 kg/m3:"
+        f" largest error {in_millionths(largest)},"
         f" smallest salinity step {in_millionths(least['saltier'])} (shown {1_000 * least_shown['saltier']}),"
         f" smallest pressure step {in_millionths(least['deeper'])} (shown {1_000 * least_shown['deeper']}),"
         f" largest needle error {in_millionths(worst)}; {len(wrong)} wrong"
