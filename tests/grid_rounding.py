@@ -1,12 +1,14 @@
 #!/usr/bin/env python3
-"""Measures what putting a reading on the grid adds to the error of a shown density.
+"""Measures what putting readings on the grid adds to the error of a shown density and of a needle.
 
     python3 tests/grid_rounding.py COMMAND ...      the command that starts the driver (tests/driver.c)
 
 Proved is how near a shown density is to the published formula at the grid numbers: 0.0006 kg/m3. A float as sent is up to half a step
 away from its grid number: 0.0005 of salinity, 0.0005 degrees C, 0.005 bar. What that changes in the formula is scanned here over the whole
-accepted range, and then sampled through the compiled panel, with floats as near to half a step as floats come. It is a measurement, no
-proof. The documents' words are the bounds below: the test fails where one is exceeded, and where a search comes to under 0.9 of one.
+accepted range, and then sampled through the compiled panel, with floats as near to half a step as floats come. A needle's formula is that
+of both waters as sent at the greater of the two pressures as sent: both share its half step, so that salinity and temperature matter most
+there. It is a measurement, no proof. The documents' words are the bounds below: the test fails where one is exceeded, and where a search
+comes to under 0.9 of one.
 """
 import random
 import struct
@@ -20,10 +22,12 @@ from math import floor, isqrt, sqrt
 sys.dont_write_bytecode = True
 import coefficients  # as UNESCO's papers print them, held to SPEC and to the code
 
-# kg/m3: half a step in each and in all three, what is proved, and the sum of the last two.
-BOUNDS = {"salinity": 0.00043, "temperature": 0.00023, "pressure": 0.00027, "together": 0.0008}
+# kg/m3: half a step in each, in the first two and in all three, what is proved, and the sum of the last two. For a needle, whose waters share
+# a pressure, twice what is proved and half a step in the first two.
+BOUNDS = {"salinity": 0.00043, "temperature": 0.00023, "pressure": 0.00027, "salinity and temperature": 0.00059, "together": 0.0008}
 PROVED = 0.0006
 WHOLE = 0.0014
+WHOLE_NEEDLE = 2 * (PROVED + BOUNDS["salinity and temperature"])
 # From this needle on no pair's waters, as sent, lie the other way: it is more than twice the whole.
 SURE_NEEDLE = 3
 
@@ -31,9 +35,10 @@ RANGES = (0.0, 42.0), (-2.0, 40.0), (0.0, 1_000.0)
 STEPS = 1_000, 1_000, 100  # grid numbers to the unit
 HALF = tuple(0.5 / steps for steps in STEPS)
 POINTS = 85, 85, 101
-UNIFORM, NEAR = 100_000, 100_000  # readings sampled
-# A pair as sent, left and right: the needle says +2, the formula that the right is lighter.
-EXAMPLE = (40.891491, 39.962509, 958.48492), (40.891510, 39.963490, 958.48511)
+UNIFORM, NEAR = 100_000, 50_000  # readings sampled
+LEVELS, WATERS = 20, 2_500  # pressures, and waters at each of them, of which all pairs are sampled
+# A pair as sent, left and right: the needle says +2, the formula at the right's pressure that the right is lighter.
+EXAMPLE = (40.0695, 33.1105003, 0.4), (40.1355019, 33.2444992, 9.05)
 
 # ---- the published formula, in doubles and in fractions: practical salinity, degrees C, bar; lowest power of the temperature first. The
 # density at the surface goes by salinity to the powers 0, 1, 3/2 and 2, the modulus by these and by the pressure.
@@ -83,6 +88,7 @@ WAYS = {
     "salinity": [((0, 0, 0), (1, 0, 0))],
     "temperature": [((0, 0, 0), (0, 1, 0))],
     "pressure": [((0, 0, 0), (0, 0, 1))],
+    "salinity and temperature": [((0, 0, 0), (1, 1, 0)), ((1, 0, 0), (0, 1, 0))],
     "together": [(c, tuple(1 - x for x in c)) for c in CORNERS[:4]],  # grid number and float at opposite corners of a box
 }
 
@@ -135,6 +141,7 @@ def scanned():
                     abs(salt - low),
                     abs(warm - low),
                     abs(low_deep - low),
+                    max(abs(both - low), abs(salt - warm)),
                     max(abs(both_deep - low), abs(salt_deep - warm), abs(both - low_deep), abs(warm_deep - salt)),
                 )
                 for way, size in zip(WAYS, found):
@@ -220,6 +227,13 @@ def needle(command, left, right):
     return asked(command, [struct.pack("<cI3fI3f", b"n", 1, *left, 1, *right)], "<4q")[0]
 
 
+def exact_difference(left, right):
+    """Right minus left in fractions, both at the greater pressure as sent: no less than the first and no more than the second."""
+    p = max(left[2], right[2])
+    (l, l_high), (r, r_high) = exactly(*left[:2], p), exactly(*right[:2], p)
+    return r - l_high, r_high - l
+
+
 def place(point):
     return "(%s)" % ", ".join("%.9g" % x for x in point)
 
@@ -240,7 +254,7 @@ def main():
         wrong.append("doubles are not enough")
 
     # Half a step.
-    told, middle = [], None
+    told, points = [], {}
     for way, found in scanned().items():
         size, point = refined(way, *found)
         exact = exact_change(way, point)
@@ -249,12 +263,15 @@ def main():
         if not 0.9 * BOUNDS[way] < exact <= BOUNDS[way]:
             wrong.append(f"{way}: half a step changes the density by {float(exact):.7f}, the bound stated is {BOUNDS[way]}")
         told.append(f"{way} {float(exact):.7f} at {place(point)}")
-        middle = point
+        points[way] = point
     print(f"grid rounding: the most that half a step changes the density (kg/m3; from salinity, degrees C, bar up): {'; '.join(told)}")
 
-    # Readings as sent.
-    readings = [anywhere(rng) for _ in range(UNIFORM)] + [extreme(rng, middle) for _ in range(NEAR)]
-    by_shown, far, far_at, from_grid, over = {}, 0.0, None, 0.0, 0
+    # Readings as sent. The last ones are waters near the greatest change by salinity and temperature, many at one pressure.
+    readings = [anywhere(rng) for _ in range(UNIFORM)] + [extreme(rng, points["together"]) for _ in range(NEAR)]
+    for _ in range(LEVELS):
+        p = to_float(rng.uniform(*RANGES[2]))
+        readings += [(*extreme(rng, points["salinity and temperature"])[:2], p) for _ in range(WATERS)]
+    at_level, far, far_at, from_grid, over = {}, 0.0, None, 0.0, 0
     for i, (reading, (refusal, *grid, shown, _)) in enumerate(zip(readings, channels(command, readings))):
         if refusal or grid != [on_grid(x, steps) for x, steps in zip(reading, STEPS)]:
             wrong.append(f"{place(reading)} is refused or put elsewhere on the grid")
@@ -264,47 +281,52 @@ def main():
         over += i < UNIFORM and abs(off) > PROVED
         if abs(off) > far:
             far, far_at = abs(off), reading
-        by_shown.setdefault(shown, []).append((off, reading))
+        if i >= UNIFORM + NEAR:
+            at_level.setdefault(reading[2], {}).setdefault(shown, []).append((off, reading))
     if from_grid > PROVED:
         wrong.append(f"{from_grid:.7f} from the formula at the grid numbers")
     if not 0.9 * WHOLE < far <= WHOLE:
         wrong.append(f"{far:.7f} from the formula as sent; the bound stated is {WHOLE}")
     print(
-        f"grid rounding: {UNIFORM} readings drawn evenly and {NEAR} near the greatest change: shown density at most {far:.7f} from the"
-        f" formula as sent, at {place(far_at)}, and {from_grid:.7f} from the formula at the grid numbers; as sent,"
+        f"grid rounding: {UNIFORM} readings drawn evenly and {len(readings) - UNIFORM} near the greatest changes: shown density at most {far:.7f}"
+        f" from the formula as sent, at {place(far_at)}, and {from_grid:.7f} from the formula at the grid numbers; as sent,"
         f" {100 * over / UNIFORM:.1f} % of those drawn evenly are over {PROVED}"
     )
 
-    # Every pair of these readings with a small needle: how many lie the other way as sent, and the one that does so most.
-    for row in by_shown.values():
-        row.sort()
-    others, worst = {}, {}
-    for n in range(1, 6):
-        count, least, pair = 0, 1.0, None
-        for shown, lefts in by_shown.items():
-            rights = by_shown.get(shown + n)
-            if not rights:
-                continue
-            offs = [off for off, _ in rights]
-            count += sum(bisect_left(offs, off - n / 1_000) for off, _ in lefts)
-            difference = n / 1_000 + rights[0][0] - lefts[-1][0]
-            if difference < least:
-                least, pair = difference, (lefts[-1][1], rights[0][1])
-        others[n], worst[n] = count, (least, pair)
+    # Every pair of waters at one pressure: how far the needle is from the formula as sent; of small needles, how many lie the other way as
+    # sent, and the one that does so most. It is also the needle where one of the two stands at any lesser pressure.
+    others, worst, apart = dict.fromkeys(range(1, 6), 0), {n: (1.0, None) for n in range(1, 6)}, 0.0
+    for by_shown in at_level.values():
+        for row in by_shown.values():
+            row.sort()
+        apart = max(apart, max(row[-1][0] for row in by_shown.values()) - min(row[0][0] for row in by_shown.values()))
+        for n, (shown, lefts) in product(others, by_shown.items()):
+            if rights := by_shown.get(shown + n):
+                offs = [off for off, _ in rights]
+                others[n] += sum(bisect_left(offs, off - n / 1_000) for off, _ in lefts)
+                difference = n / 1_000 + rights[0][0] - lefts[-1][0]
+                worst[n] = min(worst[n], (difference, (lefts[-1][1], rights[0][1])))
+    if not 0.9 * WHOLE_NEEDLE < apart <= WHOLE_NEEDLE:
+        wrong.append(f"a needle {apart:.7f} from the formula as sent; the bound stated is {WHOLE_NEEDLE}")
     sure = min(n for n in others if all(others[m] == 0 for m in others if m >= n))
     if sure != SURE_NEEDLE:
         wrong.append(f"the smallest needle with no pair the other way is {sure}")
 
-    # The example and the worst pair found, in fractions, by the brackets' far ends.
-    for name, n, pair in (("the example", 2, EXAMPLE), ("the worst found", SURE_NEEDLE - 1, worst[SURE_NEEDLE - 1][1])):
+    # The example and the worst pair found, its left at half the pressure, both ways round; in fractions, by the brackets' far ends.
+    left, right = worst[SURE_NEEDLE - 1][1]
+    for name, pair in (("the example", EXAMPLE), ("the worst found", ((*left[:2], left[2] / 2), right))):
         left, right = (tuple(to_float(x) for x in reading) for reading in pair)
-        refusal, *_, value = needle(command, left, right)
-        low, high = exactly(*right)[0] - exactly(*left)[1], exactly(*right)[1] - exactly(*left)[0]
-        if refusal or value != n or not low <= high < 0:
+        refusal, *printed, value = needle(command, left, right)
+        low, high = exact_difference(left, right)
+        if refusal or value != SURE_NEEDLE - 1 or needle(command, right, left)[-1] != -value or not low <= high < 0:
             wrong.append(f"{name} is not so: refusal {refusal}, needle {value}, formula {float(low)} to {float(high)}")
-        print(f"grid rounding: {name}: left {place(left)}, right {place(right)}: needle {value:+}, the formula as sent {float(high):+.6f}")
+        print(
+            f"grid rounding: {name}: left {place(left)}, right {place(right)}: densities {printed}, needle {value:+}, the formula as sent"
+            f" at the greater pressure {float(high):+.6f}"
+        )
     print(
-        "grid rounding: pairs that lie the other way as sent, and the least difference: "
+        f"grid rounding: all pairs of {WATERS} waters at each of {LEVELS} pressures: needle at most {apart:.7f} from the formula as sent;"
+        " pairs that lie the other way as sent, and the least difference: "
         + "; ".join(f"needle +{n}: {others[n]}, {worst[n][0]:+.6f}" for n in others)
         + f"; none from +{sure} on"
     )
