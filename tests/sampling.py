@@ -14,7 +14,6 @@ import subprocess
 import sys
 from fractions import Fraction
 from functools import lru_cache
-from itertools import product
 from math import isqrt
 
 SALINITIES, TEMPERATURES, PRESSURES = (0, 42_000), (-2_000, 40_000), (0, 100_000)
@@ -231,6 +230,14 @@ def below(a, b):
     return a[0] * b[1] < b[0] * a[1]
 
 
+def ends(fractions):
+    """The lowest and the highest."""
+    low = high = fractions[0]
+    for a in fractions[1:]:
+        low, high = a if below(a, low) else low, a if below(high, a) else high
+    return low, high
+
+
 def in_millionths(a):
     """A fraction in units of 10^-72 as a decimal in units of 10^-6, to three places."""
     n = rounded(a[0], a[1] * 10**63)
@@ -284,7 +291,7 @@ def main():
             wrong.append(f"the formula has a step {name} that is not heavier")
 
     # Pairs, both waters at the greater pressure: a needle of 2 or more agrees with the formula whichever root each water takes; every
-    # needle's size does.
+    # needle's size does. So it is enough to try the formula's least and its greatest difference.
     decided, by_two, turned, one_is_few, worst = 0, 0, 0, False, (0, 1)
     for (left, right), (l, r), (refusal, *printed, needle) in zip(pairs, levels, needles(command, pairs)):
         if refusal or printed != [shown[left][0], shown[right][0]] or needle != shown[r][0] - shown[l][0]:
@@ -292,8 +299,8 @@ def main():
         decided += abs(needle) >= 2
         by_two += abs(needle) == 2
         turned += abs(needle) >= 2 and (printed[1] - printed[0]) * needle < 0
-        for a, b in product(densities[l], densities[r]):
-            difference, d = minus(b, a)
+        (low_l, high_l), (low_r, high_r) = ends(densities[l]), ends(densities[r])
+        for difference, d in (minus(low_r, high_l), minus(high_r, low_l)):
             if abs(needle) >= 2 and difference * needle <= 0:
                 wrong.append(f"left {left}, right {right}: the needle is {needle}, the formula says otherwise")
             one_is_few |= abs(needle) == 1 and difference * needle < 0
