@@ -143,8 +143,8 @@ fn turning(formula: &Formula, random: &mut Random) -> Pair {
 /// The sorts of needles that have to be among those tried: each tells a wrong needle from the right one, or a law speaks of it.
 fn sorts(formula: &Formula, pair: &Pair, left: &[i64; 5], right: &[i64; 5], needle: i64) -> [(&'static str, bool); 14] {
     let printed = right[3] - left[3];
-    let [at_left, at_right] = [left[2], right[2]].map(|p| difference(formula, left, right, p));
-    let at_lesser = if left[2] < right[2] { at_left } else { at_right };
+    let at_lesser = difference(formula, left, right, left[2].min(right[2]));
+    let (at_left, at_right) = if left[2] < right[2] { (at_lesser, needle) } else { (needle, at_lesser) };
     let opposite = |n: i64| n.signum() * needle.signum() < 0;
     let one_water = left[..2] == right[..2];
     let unread = pair.iter().filter(|r| r.kind == 2 && r.floats[2].within(0, 1_000)).map(|r| r.floats[2].grid(100)).max();
