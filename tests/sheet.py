@@ -13,7 +13,7 @@ from pathlib import Path
 
 import model
 from model import EXAMPLE
-from programs import PATIENCE, ROOT, SAMPLE, Trial
+from programs import PATIENCE, ROOT, SAMPLE, Trial, block
 from streams import DEEP, MISSING, bits_of, covered, deep, hard_streams, surface
 
 
@@ -52,6 +52,12 @@ class Sheet(Trial):
             self.holds("two-intakes.txt to a file", (0, b"", ""), self.make_stream(text.read_bytes(), "-", target))
             self.holds("two-intakes.txt to a file", kept, target.read_bytes())
 
+    def two_depths(self):
+        status, stream, _ = self.make_stream(b"", SAMPLE.with_name("two-depths.txt"))
+        self.holds("two-depths.txt", 0, status)
+        command = "$ ./run examples/two-depths.txt\n"
+        self.compare("README.md: two-depths.txt", stream, block("README.md", command.rstrip()).removeprefix(command).encode())
+
     def texts(self):
         for text, stream in MAKES:
             self.holds(text, (0, stream, ""), self.make_stream(text))
@@ -71,6 +77,7 @@ class Sheet(Trial):
 
     def examples(self):
         self.two_intakes()
+        self.two_depths()
         self.texts()
         # The bytes that the page for probe builders takes apart are SPEC's.
         shown = re.findall(r"^((?:[0-9A-F]{2} {1,2})+)", (ROOT / "docs" / "FORMAT.md").read_text("utf-8"), re.M)
