@@ -78,7 +78,7 @@ uint32_t warpsorrel_channel(uint32_t kind, float salinity, float temperature, fl
 
 /* 0, or 100 plus the left's refusal, otherwise 200 plus the right's. out gets the left density and the right density, each at its own pressure
  * (0 where that one is refused), and the needle: right minus left in 0.001 kg/m3, both waters at the greater of the two pressures, plus where the
- * right is heavier; 0 if refused. Where the pressures differ, the needle is not the difference of the two densities beside it. */
+ * right is heavier; 0 if refused. Where the pressures differ, the needle need not be the difference of the two densities beside it. */
 uint32_t warpsorrel_needle(uint32_t left_kind, float left_salinity, float left_temperature, float left_pressure,
                            uint32_t right_kind, float right_salinity, float right_temperature, float right_pressure,
                            int64_t out[3]);

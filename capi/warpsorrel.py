@@ -180,7 +180,7 @@ class Needle(NamedTuple):
 
     left, right  their densities in 0.001 kg/m3, each at its own pressure; 0 for one that is refused
     value        right minus left in 0.001 kg/m3, both waters at the greater of the two pressures, plus where the right is heavier; 0 if refused.
-                 0, 1 and -1 say: these two are alike. Where the pressures differ, it is not the difference of `left` and `right`
+                 0, 1 and -1 say: these two are alike. Where the pressures differ, it need not be the difference of `left` and `right`
     """
 
     refusal: Refusal

@@ -17,8 +17,7 @@ PAGE = (ROOT / "docs/PROMISES.md").read_text(encoding="utf-8")
 LIBRARIES = sorted(p.parent.parent.name for p in CRATES.glob("*/src/lib.rt"))
 TEXTS = {p: p.read_text(encoding="utf-8") for kind in ("antt", "rt") for p in CRATES.rglob("*." + kind)}
 
-# they ask for sizes, points of the grid or room, and their callers see to it
-INNER = {("whole", "*"), ("floats", "grid.place"), ("sea", "sounding_at"), ("panel", "beside"), ("cells", "*"), ("texts", "put_line")}
+INNER = {("whole", "*"), ("floats", "grid.place"), ("cells", "*"), ("texts", "put_line")}  # they ask for sizes or room, and their callers see to it
 
 wrong = []
 

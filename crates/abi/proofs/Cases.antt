@@ -37,7 +37,7 @@ pub other-kinds :
 unfolding entryOf
 other-kinds kind s t p a b c d e = simp (ne-eqb _ _ a, ne-eqb _ _ b, ne-eqb _ _ c, ne-eqb _ _ d, ne-eqb _ _ e)
 
--- salinity 35 at 10 bar and -1 °C, in made-up numbers that are all different
+-- salinity 35 at 10 bar and -1 °C, in made-up numbers that are all different; so is the needle below, also from the difference of the two densities
 abbrev deep : Channel
 deep = Channel.Accepted (record { sigma = pos 35_000; tau = neg 1_000; pi = pos 1_001 }) 1_028_642 2_219_593
 
@@ -53,17 +53,17 @@ abbrev beside : Channel
 beside = Channel.Accepted (record { sigma = pos 34_000; tau = pos 5_000; pi = pos 0 }) 1_026_883 2_213_222
 
 abbrev both : Comparison
-both = record { left = deep; right = beside; needle = Needle.Value (neg 1_759) }
+both = record { left = deep; right = beside; needle = Needle.Value (neg 1_293) }
 
 abbrev one : Comparison
 one = record { left = no; right = beside; needle = Needle.Refused 104 }
 
 pub comparison-words :
-    (comparisonWords both ≡ pos 1_028_642 ∷ pos 1_026_883 ∷ neg 1_759 ∷ []) × (comparisonWords one ≡ pos 0 ∷ pos 1_026_883 ∷ pos 0 ∷ [])
+    (comparisonWords both ≡ pos 1_028_642 ∷ pos 1_026_883 ∷ neg 1_293 ∷ []) × (comparisonWords one ≡ pos 0 ∷ pos 1_026_883 ∷ pos 0 ∷ [])
 comparison-words = (refl, refl)
 
 pub found-words :
-    (foundWords (Found.There both) ≡ pos 0 ∷ pos 1_028_642 ∷ pos 2_219_593 ∷ pos 0 ∷ pos 1_026_883 ∷ pos 2_213_222 ∷ pos 0 ∷ neg 1_759 ∷ [])
+    (foundWords (Found.There both) ≡ pos 0 ∷ pos 1_028_642 ∷ pos 2_219_593 ∷ pos 0 ∷ pos 1_026_883 ∷ pos 2_213_222 ∷ pos 0 ∷ neg 1_293 ∷ [])
     × ((foundWords (Found.There one) ≡ pos 4 ∷ pos 0 ∷ pos 0 ∷ pos 0 ∷ pos 1_026_883 ∷ pos 2_213_222 ∷ pos 104 ∷ pos 0 ∷ [])
     × (foundWords Found.Nothing ≡ pos 0 ∷ pos 0 ∷ pos 0 ∷ pos 0 ∷ pos 0 ∷ pos 0 ∷ pos 0 ∷ pos 0 ∷ []))
 found-words = (refl, (refl, refl))

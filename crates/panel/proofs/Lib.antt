@@ -1,6 +1,6 @@
 pub mod Answers
 pub mod Sizes
-pub mod Sides
+pub mod Pairing
 pub mod Needles
 pub mod Samples
 pub mod Cases

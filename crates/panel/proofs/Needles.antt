@@ -29,7 +29,7 @@ common-either p q = omega arith
 common-level : (p q : Point) → p .pi ≡ q .pi → common p q ≡ plus (p .pi)
 common-level p q h = let e : plus (q .pi) ≡ plus (p .pi) = rw (h) in omega arith
 
-taken : {y z : ℤ} → Needle.Value y ≡ Needle.Value z → y ≡ z
+pub taken : {y z : ℤ} → Needle.Value y ≡ Needle.Value z → y ≡ z
 taken e = cc
 
 never : {z : ℤ} {n : ℕ} → Needle.Refused n ≡ Needle.Value z → ⊥

@@ -27,6 +27,9 @@ one-paired κs a r r′ s s′ e f = e ∙ sym f
 pub free-entered : (κs : Lifetimes.Lfts 0) (a : _) → entered.Asked κs a
 free-entered κs a = tt
 
+pub free-beside : (κs : Lifetimes.Lfts 0) (a : _) → beside.Asked κs a
+free-beside κs a = tt
+
 pub free-needle : (κs : Lifetimes.Lfts 0) (a : _) → needle.Asked κs a
 free-needle κs a = tt
 

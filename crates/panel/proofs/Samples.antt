@@ -1,8 +1,10 @@
--- The two waters of SPEC's example, as the panel answers them: computed from the floats' bits to the shown density. Assumes nothing.
-use mathlib.Core.Path.{_≡_, refl}
+-- The two waters of SPEC's example, and one of them at 1,000 bar, as the panel answers them: computed from the floats' bits to the shown density; and
+-- their needles. Assumes nothing.
+use Prim.Native.Nat.{ℕ}
+use mathlib.Core.Path.{_≡_, refl, ap₂, _∙_}
 use lib.IntN.{pos}
 use lib.Ieee.{ofBits}
-use Rattle.whole.specs.Arith.{scaled, rowValue, rootFrom, rootOf}
+use Rattle.whole.specs.Arith.{neg, scaled, rowValue, rootFrom, rootOf}
 use Rattle.sea.specs.Table.{Dw, Ds, Dr, Dss, Kw, Ks, Kr, Aw, As, Ar, Bw, Bs}
 use Rattle.sea.specs.Recipe.{rowsAt, rootAt, surface, K0, A, B, bulk, hundredths, mass, net, gain, density, shown, bulkOf, shownOf, shownAt, modulusAt}
 use Rattle.sea.specs.Water.{rangeOf, waterOf}
@@ -15,7 +17,7 @@ use Rattle.readings.specs.declared.Entry.{Entry}
 use Rattle.channels.specs.declared.Channel.{Channel}
 use Rattle.channels.specs.declared.Needle.{Needle}
 use Rattle.panel.specs.Panel.{wateredOf, channelOf, needleOf}
-use Rattle.panel.proofs.Needles.{level}
+use Rattle.panel.proofs.Needles.{level, swapped}
 
 -- salinity 0 and 35, both at the surface and at 5 °C
 abbrev pub fresh : Entry
@@ -36,8 +38,31 @@ pub nothing-is : channelOf (Entry.Reading Report.Missing) ≡ Channel.Refused Re
 unfolding channelOf checkedOf
 nothing-is = refl
 
--- at one pressure their needle is the difference of the two densities
+-- salinity 35 at 5 °C and 1,000 bar
+abbrev pub deep : Entry
+deep = Entry.Reading (Report.Deep (floatOf 0x00 0x00 0x0C 0x42) (floatOf 0x00 0x00 0xA0 0x40) (floatOf 0x00 0x00 0x7A 0x44))
+
+pub deep-is : channelOf deep ≡ Channel.Accepted (record { sigma = pos 35_000; tau = pos 5_000; pi = pos 100_000 }) 1_069_489 2_557_749
+unfolding ofBits channelOf checkedOf placedOf placeOf inside gridNo wateredOf waterOf rangeOf scaled rowValue rootFrom rootOf Dw Ds Dr Dss Kw Ks Kr Aw As Ar Bw Bs rowsAt rootAt surface K0 A B bulk hundredths mass net gain density shown bulkOf shownOf shownAt modulusAt
+deep-is = refl
+
+-- ---- needles
+-- of the first two, at one pressure, the difference of their densities
 pub needle-is : needleOf (channelOf fresh) (channelOf salt) ≡ Needle.Value (pos 27_708)
 needle-is =
     level fresh salt (record { sigma = pos 0; tau = pos 5_000; pi = pos 0 }) (record { sigma = pos 35_000; tau = pos 5_000; pi = pos 0 }) 999_967 2_033_780 1_027_675 2_218_593
     fresh-is salt-is refl
+
+-- of the first and the last: the fresh water's density at 1,000 bar is 1,044,128, so that the needle is 25,361 and not the 69,522 between the two
+-- that are shown
+at-depth : (d k c j : ℕ) →
+    needleOf (Channel.Accepted (record { sigma = pos 0; tau = pos 5_000; pi = pos 0 }) d k) (Channel.Accepted (record { sigma = pos 35_000; tau = pos 5_000; pi = pos 100_000 }) c j) ≡
+    Needle.Value (pos 25_361)
+unfolding scaled rowValue rootFrom rootOf Dw Ds Dr Dss Kw Ks Kr Aw As Ar Bw Bs rowsAt rootAt surface K0 A B bulk mass net gain density shown bulkOf shownOf shownAt
+at-depth d k c j = refl
+
+pub deep-needle-is : needleOf (channelOf fresh) (channelOf deep) ≡ Needle.Value (pos 25_361)
+deep-needle-is = ap₂ needleOf fresh-is deep-is ∙ at-depth 999_967 2_033_780 1_069_489 2_557_749
+
+pub turned-needle-is : needleOf (channelOf deep) (channelOf fresh) ≡ Needle.Value (neg 25_361)
+turned-needle-is = swapped (channelOf fresh) (channelOf deep) (pos 25_361) deep-needle-is

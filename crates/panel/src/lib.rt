@@ -1,13 +1,14 @@
 // A channel from what stands in it, and the needle from two of them.
 ghost use mathlib.Core.Path.{_≡_};
-ghost use lib.IntN.{pos};
 ghost use Rattle.panel.specs.Panel.{entered, channelOf, comparisonOf};
-ghost use Rattle.panel.specs.Sides.{Placed, pressureOf, commonOf, besideOf, needleBetween};
+ghost use Rattle.panel.specs.Pairing.{pressureOf, commonOf, sideOf, besideOf, needleBetween};
 use channels::Channel;
 use channels::Comparison;
 use channels::Needle;
 use readings::Checked;
 use readings::Entry;
+use readings::Point;
+use sea::Sounding;
 
 // A channel's answer, and the density of its water under the pressure that it has in common with the other one: what the needle is made of.
 pub struct Side {
@@ -27,8 +28,7 @@ pub fn entered(entry: Entry) -> Checked
 
 // Its pressure; a refused one has none, and does not count.
 fn pressure(c: Checked) -> i64
-    requires { ⌜ Placed c ⌝ }
-    ensures { λ r. ⌜ r ≡ pos (pressureOf c) ⌝ }
+    ensures { λ r. ⌜ r ≡ pressureOf c ⌝ }
 {
     match c {
         Checked::Taken(at) => at.pi,
@@ -38,8 +38,7 @@ fn pressure(c: Checked) -> i64
 
 // The pressure that two have in common: the greater.
 fn common(a: Checked, b: Checked) -> i64
-    requires { ⌜ Placed a ⌝ ∗ ⌜ Placed b ⌝ }
-    ensures { λ r. ⌜ r ≡ pos (commonOf a b) ⌝ }
+    ensures { λ r. ⌜ r ≡ commonOf a b ⌝ }
 {
     let p = pressure(a);
     let q = pressure(b);
@@ -49,24 +48,35 @@ fn common(a: Checked, b: Checked) -> i64
     p
 }
 
-// One side of a pair, beside the other, of which the pressure alone is looked at. It asks for points of the grid, which `entered` gives; the calls
-// for everybody else are `answer` and `paired`, which ask for nothing.
+// A side from what its water is.
+fn sided(at: Point, found: Sounding) -> Side
+    ensures { λ r. ⌜ r ≡ sideOf at found ⌝ }
+{
+    match found {
+        Sounding::Known {
+            density,
+            bulk,
+            under,
+        } => Side {
+            channel: Channel::Accepted { at, density, bulk },
+            under,
+        },
+        Sounding::Refused(why) => Side {
+            channel: Channel::Refused(why),
+            under: 0,
+        },
+    }
+}
+
+// One side of a pair, beside the other, of which the pressure alone is looked at.
 pub fn beside(one: Checked, other: Checked) -> Side
-    requires { ⌜ Placed one ⌝ ∗ ⌜ Placed other ⌝ }
     ensures { λ r. ⌜ r ≡ besideOf one other ⌝ }
 {
     match one {
-        Checked::Taken(at) => {
-            let own = sea::sounding_at(at.sigma, at.tau, at.pi, common(one, other));
-            Side {
-                channel: Channel::Accepted {
-                    at,
-                    density: own.density,
-                    bulk: own.bulk,
-                },
-                under: own.under,
-            }
-        }
+        Checked::Taken(at) => sided(
+            at,
+            sea::sounding_at(at.sigma, at.tau, at.pi, common(one, other)),
+        ),
         Checked::Refused(why) => Side {
             channel: Channel::Refused(why),
             under: 0,

@@ -89,11 +89,11 @@ module _
 
   -- the same water at any two depths has a needle of 0
   pub same-water : p .sigma ≡ q .sigma → p .tau ≡ q .tau → z ≡ pos 0
-  same-water s t = pledge.taken (needle-is ∙ panel.same-water (channelOf (a .0)) (channelOf (a .1 .0)) p q d k d′ k′ (sym left-is) (sym right-is) s t)
+  same-water s t = panel.taken (needle-is ∙ panel.same-water (channelOf (a .0)) (channelOf (a .1 .0)) p q d k d′ k′ (sym left-is) (sym right-is) s t)
 
   -- at equal pressures the needle is the difference of the densities beside it
   pub level : p .pi ≡ q .pi → z ≡ pos d′ -ℤ pos d
-  level e = pledge.taken (needle-is ∙ panel.level (a .0) (a .1 .0) p q d k d′ k′ (sym left-is) (sym right-is) e)
+  level e = panel.taken (needle-is ∙ panel.level (a .0) (a .1 .0) p q d k d′ k′ (sym left-is) (sym right-is) e)
 
   -- the same two the other way round: the sign turns
   pub swapped : (κs′ : Lifetimes.Lfts 0) (r′ : _) (s′ : _) → paired.Learnt κs′ (a .1 .0, (a .0, a .1 .1)) r′ s′ → r′ .needle ≡ Needle.Value (negℤ z)

@@ -19,9 +19,9 @@ use Rattle.readings.specs.declared.Point.{Point}
 use Rattle.readings.proofs.Reasons.{Gridded}
 use Rattle.readings.specs.declared.Entry.{Entry}
 use Rattle.channels.specs.declared.Channel.{Channel}
-use Rattle.channels.specs.declared.Needle.{Needle}
 use Rattle.panel.specs.Panel.{channelOf, common, shownUnder, needleOf}
 use Rattle.panel.proofs.Answers.{accepted-gridded}
+use Rattle.panel.proofs.Needles.{taken}
 use Rattle.panel.proofs.Sizes.{accepted-shows, accepted-table}
 use Rattle.promises.specs.Promises.{OnGrid, Sample, Close}
 use Rattle.promises.proofs.Promises as promise
@@ -93,9 +93,6 @@ deeper x y d c a b s t p =
     (number-order 100 (x .pressure) (y .pressure) _ _ (g .pi-is) (h .pi-is) p)
 
 -- ---- the needle
-pub taken : {y z : ℤ} → Needle.Value y ≡ Needle.Value z → y ≡ z
-taken e = cc
-
 module _ (p q : Point) (x y : Frac) (z : ℤ) (r : Sides p q x y z) where
   left : Sample
   left = record { σ = plus (p .sigma); τ = p .tau; π = plus (p .pi); x = x; on-grid = on-grid (r .left) p (r .left-density) (r .left-bulk) (r .left-is); rooted = r .left-root }

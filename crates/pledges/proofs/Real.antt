@@ -1,24 +1,18 @@
 -- Nothing here is empty: what the pledges are about holds of real readings, the two waters of SPEC's example and one of them at 1,000
 -- bar. Assumes nothing.
 use Prim.Native.Nat.{_≤_}
-use mathlib.Core.Path.{_≡_, refl, sym, ap₂, _∙_}
+use mathlib.Core.Path.{refl, sym}
 use lib.IntN.{pos}
 use lib.Ieee.{Float, ofBits}
-use Rattle.whole.specs.Arith.{scaled, rowValue, rootFrom, rootOf}
+use Rattle.whole.specs.Arith.{neg}
 use Rattle.whole.specs.Fraction.{over}
-use Rattle.sea.specs.Table.{Dw, Ds, Dr, Dss, Kw, Ks, Kr, Aw, As, Ar, Bw, Bs}
-use Rattle.sea.specs.Recipe.{rowsAt, rootAt, surface, K0, A, B, bulk, hundredths, mass, net, gain, density, shown, bulkOf, shownOf, shownAt, modulusAt}
-use Rattle.sea.specs.Water.{rangeOf, waterOf}
-use Rattle.floats.specs.Grid.{inside, gridNo, placeOf, Same}
+use Rattle.sea.specs.Recipe.{rootAt, bulk}
+use Rattle.floats.specs.Grid.{Same}
 use Rattle.floats.specs.Bytes.{floatOf}
 use Rattle.readings.specs.declared.Point.{Point}
 use Rattle.readings.specs.declared.Report.{Report}
-use Rattle.readings.specs.declared.Entry.{Entry}
-use Rattle.readings.specs.Check.{deepOf, surfaceOf, placedOf, checkedOf}
-use Rattle.channels.specs.declared.Channel.{Channel}
-use Rattle.channels.specs.declared.Needle.{Needle}
-use Rattle.panel.specs.Panel.{wateredOf, channelOf, needleOf}
-use Rattle.panel.proofs.Samples.{fresh, salt, fresh-is, salt-is, needle-is}
+use Rattle.readings.specs.Check.{deepOf, surfaceOf}
+use Rattle.panel.proofs.Samples.{fresh, salt, deep, fresh-is, salt-is, deep-is, needle-is, deep-needle-is, turned-needle-is}
 use Rattle.promises.proofs.Grid.{rooted}
 use Rattle.pledges.specs.Pledges.{Shows, Sides}
 use Rattle.pledges.proofs.Pledges.{saltier, deeper}
@@ -76,10 +70,6 @@ f1000 = floatOf 0x00 0x00 0x7A 0x44
 pub shows-fresh : Shows (surfaceOf f0 f5) 999_967
 shows-fresh = record { report = Report.Surface f0 f5; reading-is = refl; point = fresh-at; bulk = 2_033_780; channel-is = sym fresh-is }
 
-pub deep-is : channelOf (Entry.Reading (Report.Deep f35 f5 f1000)) ≡ Channel.Accepted deep-at 1_069_489 2_557_749
-unfolding ofBits channelOf checkedOf placedOf placeOf inside gridNo wateredOf waterOf rangeOf scaled rowValue rootFrom rootOf Dw Ds Dr Dss Kw Ks Kr Aw As Ar Bw Bs rowsAt rootAt surface K0 A B bulk hundredths mass net gain density shown bulkOf shownOf shownAt modulusAt
-deep-is = refl
-
 pub shows-deep : Shows (deepOf f35 f5 f1000) 1_069_489
 shows-deep =
     record {
@@ -90,17 +80,12 @@ shows-deep =
       channel-is = sym deep-is;
     }
 
--- fresh water at the surface beside salt water at 1,000 bar: the fresh water's density there is 1,044,128, so that the needle is 25,361 and not the
--- 69,522 between the two that are shown
-deep-needle : needleOf (Channel.Accepted fresh-at 999_967 2_033_780) (Channel.Accepted deep-at 1_069_489 2_557_749) ≡ Needle.Value (pos 25_361)
-unfolding scaled rowValue rootFrom rootOf Dw Ds Dr Dss Kw Ks Kr Aw As Ar Bw Bs rowsAt rootAt surface K0 A B bulk mass net gain density shown bulkOf shownOf shownAt
-deep-needle = refl
-
+-- fresh water at the surface beside salt water at 1,000 bar, and the other way round
 pub sides-at-depths : Sides fresh-at deep-at (over (rootAt 0) 100_000) (over (rootAt 35_000) 100_000) (pos 25_361)
 sides-at-depths =
     record {
       left = fresh;
-      right = Entry.Reading (Report.Deep f35 f5 f1000);
+      right = deep;
       left-density = 999_967;
       left-bulk = 2_033_780;
       right-density = 1_069_489;
@@ -109,7 +94,23 @@ sides-at-depths =
       right-is = sym deep-is;
       left-root = rooted 0;
       right-root = rooted 35_000;
-      needle-is = sym (ap₂ needleOf fresh-is deep-is ∙ deep-needle);
+      needle-is = sym deep-needle-is;
+    }
+
+pub sides-turned : Sides deep-at fresh-at (over (rootAt 35_000) 100_000) (over (rootAt 0) 100_000) (neg 25_361)
+sides-turned =
+    record {
+      left = deep;
+      right = fresh;
+      left-density = 1_069_489;
+      left-bulk = 2_557_749;
+      right-density = 999_967;
+      right-bulk = 2_033_780;
+      left-is = sym deep-is;
+      right-is = sym fresh-is;
+      left-root = rooted 35_000;
+      right-root = rooted 0;
+      needle-is = sym turned-needle-is;
     }
 
 pub same-5 : Same f5 f5

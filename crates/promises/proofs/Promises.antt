@@ -9,7 +9,7 @@ use Rattle.whole.proofs.Ints.{of-≤ℤ, sub-is}
 use Rattle.whole.proofs.Near.{Near}
 use Rattle.sea.specs.Recipe.{rowsAt, rootAt, shownOf, shownAt, modulusAt}
 use Rattle.promises.specs.Formula.{densityF}
-use Rattle.promises.specs.Promises.{OnGrid, Rooted, Within, Sample, formula, panel, common, ShownWithin, StifferThanPressure, Saltier, Deeper, RightHeavier, LeftHeavier, NeedleWithin}
+use Rattle.promises.specs.Promises.{OnGrid, Rooted, Within, Sample, formula, panel, inCommon, ShownWithin, StifferThanPressure, Saltier, Deeper, RightHeavier, LeftHeavier, NeedleWithin}
 use Rattle.promises.proofs.Rise.{rising}
 use Rattle.promises.proofs.Pressure.{pressure-rising}
 use Rattle.promises.proofs.Salt.{salt-step}
@@ -36,29 +36,29 @@ deeper σ τ π π′ g g′ more =
 
 -- two waters, under the pressure that they have in common, which is on the grid as their own are
 module _ (left right : Sample) where
-  deep : common left right ≤ 100_000
+  deep : inCommon left right ≤ 100_000
   deep = omega (arith, left .on-grid .deep, right .on-grid .deep)
 
-  left-near : Near 10_000 (formula left (common left right)) (pos (10 * panel left (common left right))) 6 6
-  left-near = panel-near left (common left right) deep
+  left-near : Near 10_000 (formula left (inCommon left right)) (pos (10 * panel left (inCommon left right))) 6 6
+  left-near = panel-near left (inCommon left right) deep
 
-  right-near : Near 10_000 (formula right (common left right)) (pos (10 * panel right (common left right))) 6 6
-  right-near = panel-near right (common left right) deep
+  right-near : Near 10_000 (formula right (inCommon left right)) (pos (10 * panel right (inCommon left right))) 6 6
+  right-near = panel-near right (inCommon left right) deep
 
 pub right-heavier : RightHeavier
 right-heavier left right two =
-    let l = panel left (common left right) in
-    let r = panel right (common left right) in
+    let l = panel left (inCommon left right) in
+    let r = panel right (inCommon left right) in
     heavier l r (left-near left right) (right-near left right) (omega (arith, of-≤ℤ _ _ two, sub-is (pos r) (pos l)))
 
 pub left-heavier : LeftHeavier
 left-heavier left right two =
-    let l = panel left (common left right) in
-    let r = panel right (common left right) in
+    let l = panel left (inCommon left right) in
+    let r = panel right (inCommon left right) in
     heavier r l (right-near left right) (left-near left right) (omega (arith, of-≤ℤ _ _ two, sub-is (pos r) (pos l)))
 
 pub needle-within : NeedleWithin
-needle-within left right = difference-within (panel left (common left right)) (panel right (common left right)) (left-near left right) (right-near left right) (omega arith)
+needle-within left right = difference-within (panel left (inCommon left right)) (panel right (inCommon left right)) (left-near left right) (right-near left right) (omega arith)
 
 -- ---- what the words say: within means on both sides, and every number of the grid table is on the grid
 pub within-both : (e : Frac) (n : ℤ) (f : Frac) → Within e n f → (f ≤F units 1_000 n ⊕ e) × (units 1_000 n ≤F f ⊕ e)

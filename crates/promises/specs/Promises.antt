@@ -47,12 +47,12 @@ abbrev pub panel : Sample → ℕ → ℕ
 panel s π = shownAt (s .σ) (s .τ) π
 
 -- the pressure that two waters have in common: the greater of their own
-abbrev pub common : Sample → Sample → ℕ
-common left right = max (left .π) (right .π)
+abbrev pub inCommon : Sample → Sample → ℕ
+inCommon left right = max (left .π) (right .π)
 
 -- shown density of the right minus that of the left, both under the pressure that they have in common
 abbrev pub needle : Sample → Sample → ℤ
-needle left right = pos (panel right (common left right)) -ℤ pos (panel left (common left right))
+needle left right = pos (panel right (inCommon left right)) -ℤ pos (panel left (inCommon left right))
 
 -- ---- the promises
 -- 1. the shown density is within 0.0006 kg/m³ of the formula's
@@ -74,11 +74,11 @@ Deeper = (σ : ℕ) (τ : ℤ) (π π′ : ℕ) → OnGrid σ τ π → OnGrid �
 -- 5. a needle of 2 or more, either way, never names as heavier a water that the formula, with both under the pressure in common, makes equal or
 -- lighter
 abbrev pub RightHeavier : Type 0
-RightHeavier = (left right : Sample) → pos 2 ≤ℤ needle left right → ¬ (formula right (common left right) ≤F formula left (common left right))
+RightHeavier = (left right : Sample) → pos 2 ≤ℤ needle left right → ¬ (formula right (inCommon left right) ≤F formula left (inCommon left right))
 
 abbrev pub LeftHeavier : Type 0
-LeftHeavier = (left right : Sample) → needle left right ≤ℤ neg 2 → ¬ (formula left (common left right) ≤F formula right (common left right))
+LeftHeavier = (left right : Sample) → needle left right ≤ℤ neg 2 → ¬ (formula left (inCommon left right) ≤F formula right (inCommon left right))
 
 -- 6. the needle is within 0.0012 kg/m³ of the formula's difference there
 abbrev pub NeedleWithin : Type 0
-NeedleWithin = (left right : Sample) → Within (over 12 10_000) (needle left right) (formula right (common left right) ⊖ formula left (common left right))
+NeedleWithin = (left right : Sample) → Within (over 12 10_000) (needle left right) (formula right (inCommon left right) ⊖ formula left (inCommon left right))

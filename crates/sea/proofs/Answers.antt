@@ -12,11 +12,12 @@ use Rattle.refusals.specs.declared.Refusal.{Refusal}
 use Rattle.refusals.specs.declared.Refusal.the-variants.{Salinity, Temperature, Pressure}
 use Rattle.waters.specs.declared.Water.{Water}
 use Rattle.waters.specs.declared.Water.the-variants.{Known, Refused}
+use Rattle.sea.specs.declared.Sounding.{Sounding}
 use Rattle.sea.specs.declared.InRange.{InRange}
 use Rattle.sea.specs.declared.InRange.the-variants.{Inside, Outside}
 use Rattle.sea.specs.Recipe.{bulkOf, shownOf, shownAt, modulusAt, parcelOf, parcelAt}
 use Rattle.sea.specs.Sizes.{Lies, OnTable}
-use Rattle.sea.specs.Water.{rangeOf, unless, waterOf}
+use Rattle.sea.specs.Water.{rangeOf, unless, waterOf, soundingOf}
 use Rattle.sea.proofs.Grid.{natural, inside-lies, parcel-ranges}
 
 -- ---- in range means Inside
@@ -34,6 +35,22 @@ pub known-on-table : (σ τ π : ℤ) → OnTable σ τ π → waterOf σ τ π 
 unfolding waterOf
 known-on-table σ τ π t =
     rw (lies-inside (pos 0) (pos 42_000) σ (t .salinity), lies-inside (neg 2_000) (pos 40_000) τ (t .temperature), lies-inside (pos 0) (pos 100_000) π (t .pressure))
+
+-- so is its sounding under any pressure of the table
+pub sounding-on-table : (σ τ π π′ : ℤ) → OnTable σ τ π → Lies (pos 0) (pos 100_000) π′ →
+    soundingOf σ τ π π′ ≡ Sounding.Known (shownAt (plus σ) τ (plus π)) (modulusAt (plus σ) τ (plus π)) (shownAt (plus σ) τ (plus π′))
+unfolding soundingOf
+sounding-on-table σ τ π π′ t d =
+    let u : OnTable σ τ π′ = record { salinity = t .salinity; temperature = t .temperature; pressure = d } in rw (known-on-table σ τ π t, known-on-table σ τ π′ u)
+
+-- a water that is refused has no sounding, nor is there one under a pressure off the table
+pub sounding-refused : (σ τ π π′ : ℤ) (r : Refusal) → waterOf σ τ π ≡ Refused r → soundingOf σ τ π π′ ≡ Sounding.Refused r
+unfolding soundingOf
+sounding-refused σ τ π π′ r e = rw (e) refl
+
+pub sounding-off-table : (σ τ π π′ : ℤ) (d k : ℕ) (r : Refusal) → waterOf σ τ π ≡ Known d k → waterOf σ τ π′ ≡ Refused r → soundingOf σ τ π π′ ≡ Sounding.Refused r
+unfolding soundingOf
+sounding-off-table σ τ π π′ d k r e f = rw (e, f) refl
 
 -- ---- a known water is on the table
 apart : {r : Refusal} {d k : ℕ} → Refused r ≡ Known d k → ⊥

@@ -12,5 +12,8 @@ pub one-water-at : (κs : Lifetimes.Lfts 0) (a : _) (r r′ : _) (s s′ : _) �
 one-water-at κs a r r′ s s′ e f = e ∙ sym f
 
 -- ---- nothing is asked of the caller: `Asked` is what a contract requires
+pub free-sounding-at : (κs : Lifetimes.Lfts 0) (a : _) → sounding-at.Asked κs a
+free-sounding-at κs a = tt
+
 pub free-water-at : (κs : Lifetimes.Lfts 0) (a : _) → water-at.Asked κs a
 free-water-at κs a = tt

@@ -6,7 +6,6 @@ use Rattle.whole.specs.Arith.{plus, scaled, rowValue, rootOf}
 use Rattle.sea.specs.declared.Rows.{Rows}
 use Rattle.sea.specs.declared.Parcel.{Parcel}
 use Rattle.sea.specs.declared.State.{State}
-use Rattle.sea.specs.declared.Sounding.{Sounding}
 use Rattle.sea.specs.Table.{Dw, Ds, Dr, Dss, Kw, Ks, Kr, Aw, As, Ar, Bw, Bs}
 
 -- the values of the twelve rows at τ
@@ -99,7 +98,3 @@ parcelAt σ τ = parcelOf (rowsAt τ) σ (rootAt σ)
 -- a parcel under a pressure
 unfoldable pub pressedOf : Parcel → ℕ → State
 pressedOf x π = let k = bulk (x .k0) (x .a) (x .b) π in record { density = shown (x .d) k π; bulk = hundredths k }
-
--- the water at σ, τ, π, and its density under another pressure
-unfoldable pub soundingAt : ℕ → ℤ → ℕ → ℕ → Sounding
-soundingAt σ τ π π′ = record { density = shownAt σ τ π; bulk = modulusAt σ τ π; under = shownAt σ τ π′ }

@@ -7,6 +7,7 @@ use Rattle.refusals.specs.declared.Refusal.{Refusal}
 use Rattle.refusals.specs.declared.Refusal.the-variants.{Salinity, Temperature, Pressure}
 use Rattle.waters.specs.declared.Water.{Water}
 use Rattle.waters.specs.declared.Water.the-variants.{Known, Refused}
+use Rattle.sea.specs.declared.Sounding.{Sounding}
 use Rattle.sea.specs.declared.InRange.{InRange}
 use Rattle.sea.specs.declared.InRange.the-variants.{Inside, Outside}
 use Rattle.sea.specs.Recipe.{shownAt, modulusAt}
@@ -27,3 +28,12 @@ waterOf σ τ π =
     (unless (rangeOf (neg 2_000) (pos 40_000) τ) Temperature
     (unless (rangeOf (pos 0) (pos 100_000) π) Pressure
     (Known (shownAt (plus σ) τ (plus π)) (modulusAt (plus σ) τ (plus π)))))
+
+-- the same, and the shown density of the same water under another pressure, which is refused by 5 as its own is
+abbrev pub sounded : Water → Water → Sounding
+sounded (Known d k) (Known u j) = Sounding.Known d k u
+sounded (Known d k) (Refused r) = Sounding.Refused r
+sounded (Refused r) w = Sounding.Refused r
+
+unfoldable pub soundingOf : ℤ → ℤ → ℤ → ℤ → Sounding
+soundingOf σ τ π π′ = sounded (waterOf σ τ π) (waterOf σ τ π′)

@@ -2,9 +2,10 @@
 ghost use mathlib.Core.Path.{_≡_};
 ghost use lib.IntN.{pos, _+ℤ_};
 ghost use Rattle.whole.specs.Arith.{neg, plus, scaled};
+ghost use Rattle.sea.specs.declared.Sounding.the-variants.{Known};
 ghost use Rattle.sea.specs.Recipe as the;
 ghost use Rattle.sea.specs.Sizes.{Lies, OnTable, Sizes, Salty, Stiff, Ranges};
-ghost use Rattle.sea.specs.Water.{rangeOf, waterOf};
+ghost use Rattle.sea.specs.Water.{rangeOf, waterOf, soundingOf};
 use refusals::Refusal;
 use waters::Water;
 
@@ -44,11 +45,10 @@ pub struct State {
     pub bulk: u32,
 }
 
-// The same at its own pressure, and the density of the same water under another.
-pub struct Sounding {
-    pub density: u32,
-    pub bulk: u32,
-    pub under: u32,
+// A water at its own pressure, with its density under another one; or why not.
+pub enum Sounding {
+    Known { density: u32, bulk: u32, under: u32 },
+    Refused(Refusal),
 }
 
 // Coefficients in units of 10^-9, lowest power first, noughts past a row's end.
@@ -194,22 +194,21 @@ fn pressed(x: Parcel, pi: i64) -> State
 }
 
 // The water of a point of the grid, and its density under the pressure `deep`: the rows are worked out once, and at its own pressure nothing twice.
-// It asks for numbers of the grid; the call for everybody else is `water_at`, which asks for nothing.
-pub fn sounding_at(sigma: i64, tau: i64, pi: i64, deep: i64) -> Sounding
+fn sounded(sigma: i64, tau: i64, pi: i64, deep: i64) -> Sounding
     requires { ⌜ OnTable sigma tau pi ⌝ ∗ ⌜ Lies (pos 0) (pos 100_000) deep ⌝ }
-    ensures { λ r. ⌜ r ≡ the.soundingAt (plus sigma) tau (plus pi) (plus deep) ⌝ }
+    ensures { λ r. ⌜ r ≡ Known (the.shownAt (plus sigma) tau (plus pi)) (the.modulusAt (plus sigma) tau (plus pi)) (the.shownAt (plus sigma) tau (plus deep)) ⌝ }
 {
     let water = parcel_at(sigma, tau);
     let own = pressed(water, pi);
     if deep == pi {
-        return Sounding {
+        return Sounding::Known {
             density: own.density,
             bulk: own.bulk,
             under: own.density,
         };
     }
     let other = pressed(water, deep);
-    Sounding {
+    Sounding::Known {
         density: own.density,
         bulk: own.bulk,
         under: other.density,
@@ -228,22 +227,37 @@ fn within(z: i64, low: i64, high: i64) -> InRange
     InRange::Outside
 }
 
-// Density and bulk modulus at the grid numbers sigma (0.001), tau (0.001 degrees) and pi (0.01 bar).
+// Density and bulk modulus at the grid numbers sigma (0.001), tau (0.001 degrees) and pi (0.01 bar), and the density of the same water under the
+// pressure `deep`.
+pub fn sounding_at(sigma: i64, tau: i64, pi: i64, deep: i64) -> Sounding
+    ensures { λ r. ⌜ r ≡ soundingOf sigma tau pi deep ⌝ }
+{
+    let InRange::Inside = within(sigma, 0, 42000) else {
+        return Sounding::Refused(Refusal::Salinity);
+    };
+    let InRange::Inside = within(tau, -2000, 40000) else {
+        return Sounding::Refused(Refusal::Temperature);
+    };
+    let InRange::Inside = within(pi, 0, 100000) else {
+        return Sounding::Refused(Refusal::Pressure);
+    };
+    let InRange::Inside = within(deep, 0, 100000) else {
+        return Sounding::Refused(Refusal::Pressure);
+    };
+    sounded(sigma, tau, pi, deep)
+}
+
+// Density and bulk modulus alone.
 pub fn water_at(sigma: i64, tau: i64, pi: i64) -> Water
     ensures { λ r. ⌜ r ≡ waterOf sigma tau pi ⌝ }
 {
-    let InRange::Inside = within(sigma, 0, 42000) else {
-        return Water::Refused(Refusal::Salinity);
-    };
-    let InRange::Inside = within(tau, -2000, 40000) else {
-        return Water::Refused(Refusal::Temperature);
-    };
-    let InRange::Inside = within(pi, 0, 100000) else {
-        return Water::Refused(Refusal::Pressure);
-    };
-    let s = sounding_at(sigma, tau, pi, pi);
-    Water::Known {
-        density: s.density,
-        bulk: s.bulk,
+    let found = sounding_at(sigma, tau, pi, pi);
+    match found {
+        Sounding::Known {
+            density,
+            bulk,
+            under: _,
+        } => Water::Known { density, bulk },
+        Sounding::Refused(why) => Water::Refused(why),
     }
 }

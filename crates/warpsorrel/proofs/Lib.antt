@@ -1,2 +1,3 @@
 mod Words
 pub mod One
+pub mod Told

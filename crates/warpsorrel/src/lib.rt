@@ -7,7 +7,7 @@ ghost use Rattle.sea.specs.Water.{waterOf};
 ghost use Rattle.waters.specs.Numbers.{waterNumber, waterDensity, waterBulk};
 ghost use Rattle.channels.specs.Numbers.{channelNumber, needleNumber};
 ghost use Rattle.panel.specs.Panel.{channelOf, comparisonOf};
-ghost use Rattle.panel.specs.Sides.{needleBetween, comparedFrom};
+ghost use Rattle.panel.specs.Pairing.{needleBetween, comparedFrom};
 ghost use Rattle.pairs.specs.Pairs.{pairs};
 ghost use Rattle.streams.specs.Nth.{nthOf};
 ghost use Rattle.cells.specs.Cells.{written};

@@ -12,7 +12,7 @@ use Rattle.whole.proofs.Words.{word-as, fits-as, fits-size}
 use Rattle.refusals.proofs.Numbers.{number-range}
 use Rattle.channels.specs.declared.Channel.{Channel}
 use Rattle.channels.specs.declared.Needle.{Needle}
-use Rattle.panel.specs.Sides.{needleFrom}
+use Rattle.panel.specs.Pairing.{needleFrom}
 use Rattle.panel.proofs.needle.Statement.{statement}
 use Rattle.panel.proofs.needle.Tie as tie
 

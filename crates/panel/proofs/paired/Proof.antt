@@ -1,6 +1,6 @@
 -- `panel::paired` meets its contract: two sides, each beside the other, are the comparison. Assumes nothing.
 use borrow.Author.Needs.{needs}
-use Rattle.panel.proofs.Sides.{placed, compared}
+use Rattle.panel.proofs.Pairing.{compared}
 use Rattle.panel.proofs.paired.Statement.{statement}
 use Rattle.panel.proofs.paired.Tie as tie
 
@@ -11,10 +11,10 @@ entered-requires-2 : tie.Need-entered-requires-2
 entered-requires-2 c κs = search needs
 
 beside-requires : tie.Need-beside-requires
-beside-requires c κs = let a = c .before .before .args in (placed (a .left) (c .before .entered .ensures), placed (a .right) (c .entered2 .ensures))
+beside-requires c κs = search needs
 
 beside-requires-2 : tie.Need-beside-requires-2
-beside-requires-2 c κs = let a = c .before .before .before .args in (placed (a .right) (c .before .entered2 .ensures), placed (a .left) (c .before .before .entered .ensures))
+beside-requires-2 c κs = search needs
 
 needle-requires : tie.Need-needle-requires
 needle-requires c κs = search needs

@@ -7,7 +7,7 @@ use Rattle.channels.specs.declared.Comparison.{Comparison}
 use Rattle.channels.specs.Numbers.{needleNumber}
 use Rattle.readings.specs.declared.Entry.{Entry}
 use Rattle.panel.specs.Panel.{entered}
-use Rattle.panel.proofs.Sides.{placed, compared}
+use Rattle.panel.proofs.Pairing.{compared}
 use Rattle.abi.specs.Abi.{entryOf, comparisonWords}
 use Rattle.warpsorrel.proofs.warpsorrel_needle.Statement.{statement}
 use Rattle.warpsorrel.proofs.warpsorrel_needle.Tie as tie
@@ -38,10 +38,10 @@ entered-requires-2 : tie.Need-entered-requires-2
 entered-requires-2 c κs = search needs
 
 beside-requires : tie.Need-beside-requires
-beside-requires c κs = let s = c .before .before .before .before in (placed (left s) (left-is (c .before)), placed (right s) (right-is c))
+beside-requires c κs = search needs
 
 beside-requires-2 : tie.Need-beside-requires-2
-beside-requires-2 c κs = let s = c .before .before .before .before .before in (placed (right s) (right-is (c .before)), placed (left s) (left-is (c .before .before)))
+beside-requires-2 c κs = search needs
 
 put-needle-requires : tie.Need-put-needle-requires
 put-needle-requires c κs = search needs

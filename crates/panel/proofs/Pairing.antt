@@ -1,0 +1,105 @@
+-- What two sides, each worked out beside the other, say of their channels: the channel of each is its own, and the needle between them is the needle of
+-- the channels. Assumes nothing.
+use Prim.Native.Nat.{ℕ, _≤_, max}
+use mathlib.Core.Path.{_≡_, refl, ap, ap₂, _∙_}
+use mathlib.Core.Bool.{Bool, true, false, cond}
+use native.Mathlib.Omega.{arith}
+use borrow.Author.Tests.{ltb-true, ltb-false}
+use lib.Dec.{ltb}
+use lib.IntN.{ℤ, pos, negsuc, _-ℤ_}
+use lib.Signed.{ltZ}
+use Rattle.whole.specs.Arith.{plus, minus}
+use Rattle.sea.specs.Sizes.{OnTable}
+use Rattle.sea.specs.Recipe.{modulusAt}
+use Rattle.sea.proofs.Answers.{known-on-table, sounding-on-table}
+use Rattle.sea.proofs.Grid.{natural, lies-natural}
+use Rattle.refusals.specs.declared.Refusal.{Refusal}
+use Rattle.readings.specs.declared.Point.{Point}
+use Rattle.readings.specs.declared.Checked.{Checked}
+use Rattle.readings.specs.declared.Entry.{Entry}
+use Rattle.readings.proofs.Answers.{taken-on-grid}
+use Rattle.channels.specs.declared.Channel.{Channel}
+use Rattle.channels.specs.declared.Needle.{Needle}
+use Rattle.panel.specs.declared.Side.{Side}
+use Rattle.panel.specs.Panel.{filled, wateredOf, entered, checkedChannel, channelOf, common, shownUnder, needleOf, comparisonOf}
+use Rattle.panel.specs.Pairing.{pressureOf, commonOf, besideOf, needleBetween, comparedFrom}
+use Rattle.panel.proofs.Answers.{on-table}
+use Rattle.panel.proofs.Needles.{common-either}
+
+-- what stands in a channel, put on the grid: a point of the table, or a refusal
+data Placed : Checked → Type 0 where
+  at : (p : Point) → OnTable (p .sigma) (p .tau) (p .pi) → Placed (Checked.Taken p)
+  nowhere : (r : Refusal) → Placed (Checked.Refused r)
+
+by-check : (c : Checked) → ((p : Point) → c ≡ Checked.Taken p → OnTable (p .sigma) (p .tau) (p .pi)) → Placed c
+by-check (Checked.Taken p) t = at p (t p refl)
+by-check (Checked.Refused r) t = nowhere r
+
+placed : (e : Entry) → Placed (entered e)
+placed (Entry.Reading report) = by-check _ (λ p e. on-table p (taken-on-grid report p e))
+placed (Entry.Refused u) = nowhere _
+
+-- a point on the table is accepted
+accepted-at : (p : Point) → OnTable (p .sigma) (p .tau) (p .pi) → wateredOf p ≡ Channel.Accepted p (shownUnder (plus (p .pi)) p) (modulusAt (plus (p .sigma)) (p .tau) (plus (p .pi)))
+unfolding wateredOf
+accepted-at p t = ap (filled p) (known-on-table (p .sigma) (p .tau) (p .pi) t)
+
+-- the greater of two pressures that are not negative
+greater : (x y : ℤ) → minus x ≡ 0 → minus y ≡ 0 → cond (ltZ x y) y x ≡ pos (max (plus x) (plus y))
+greater (pos m) (pos n) e f = go (ltb m n) refl
+  where
+    go : (b : Bool) → ltb m n ≡ b → cond b (pos n) (pos m) ≡ pos (max m n)
+    go true h = ap pos (let g : n ≡ max m n = omega (arith, ltb-true m n h) in g)
+    go false h = ap pos (let g : m ≡ max m n = omega (arith, ltb-false m n h) in g)
+greater (pos m) (negsuc n) e f = absurd (let g : ⊥ = omega arith in g)
+greater (negsuc m) y e f = absurd (let g : ⊥ = omega arith in g)
+
+whole : {c : Checked} → Placed c → minus (pressureOf c) ≡ 0
+whole (at p t) = natural (t .pressure) .whole
+whole (nowhere r) = refl
+
+most : {c : Checked} → Placed c → plus (pressureOf c) ≤ 100_000
+most (at p t) = natural (t .pressure) .most
+most (nowhere r) = omega arith
+
+common-is : {a b : Checked} → Placed a → Placed b → commonOf a b ≡ pos (max (plus (pressureOf a)) (plus (pressureOf b)))
+unfolding commonOf
+common-is {a} {b} h g = greater (pressureOf a) (pressureOf b) (whole h) (whole g)
+
+-- a side whose reading was taken, and one that was refused
+beside-taken : (p : Point) {b : Checked} (t : OnTable (p .sigma) (p .tau) (p .pi)) → Placed b →
+    besideOf (Checked.Taken p) b ≡ record { channel = wateredOf p; under = shownUnder (max (plus (p .pi)) (plus (pressureOf b))) p }
+unfolding besideOf
+beside-taken p {b} t g =
+    let n = max (plus (p .pi)) (plus (pressureOf b)) in
+    let h : n ≤ 100_000 = omega (arith, most (at p t), most g) in
+    rw (common-is (at p t) g, sounding-on-table (p .sigma) (p .tau) (p .pi) (pos n) t (lies-natural h), accepted-at p t)
+
+beside-refused : (r : Refusal) (b : Checked) → besideOf (Checked.Refused r) b ≡ record { channel = Channel.Refused r; under = 0 }
+unfolding besideOf
+beside-refused r b = refl
+
+needle-placed : {a b : Checked} → Placed a → Placed b → needleBetween (besideOf a b) (besideOf b a) ≡ needleOf (checkedChannel a) (checkedChannel b)
+needle-placed (nowhere r) g = rw (beside-refused r _) refl
+needle-placed (at p t) (nowhere r) = rw (beside-taken p t (nowhere r), beside-refused r (Checked.Taken p), accepted-at p t) refl
+needle-placed (at p t) (at q u) =
+    rw (beside-taken p t (at q u), beside-taken q u (at p t), accepted-at p t, accepted-at q u) (
+    ap (λ (n : ℕ). Needle.Value (pos (shownUnder n q) -ℤ pos (shownUnder (common p q) p))) (common-either p q)
+    )
+
+channel-placed : {a b : Checked} → Placed a → Placed b → (besideOf a b) .channel ≡ checkedChannel a
+channel-placed (at p t) g = ap (λ (s : Side). s .channel) (beside-taken p t g)
+channel-placed (nowhere r) g = ap (λ (s : Side). s .channel) (beside-refused r _)
+
+compared-beside : (l r : Entry) → comparedFrom (besideOf (entered l) (entered r)) (besideOf (entered r) (entered l)) ≡ comparisonOf l r
+unfolding comparisonOf channelOf
+compared-beside l r = rw (needle-placed (placed l) (placed r), channel-placed (placed l) (placed r), channel-placed (placed r) (placed l))
+
+-- ---- of what calls gave, as who makes a pair has it: a and b are what `entered` gave for l and r, x and y what `beside` gave for each beside the other
+pub compared : {a b : Checked} {x y : Side} (l r : Entry) → a ≡ entered l → b ≡ entered r → x ≡ besideOf a b → y ≡ besideOf b a → comparedFrom x y ≡ comparisonOf l r
+compared l r p q f g = ap₂ comparedFrom (f ∙ ap₂ besideOf p q) (g ∙ ap₂ besideOf q p) ∙ compared-beside l r
+
+-- and of one alone
+pub alone : {c : Checked} {x : Side} (e : Entry) → c ≡ entered e → x ≡ besideOf c c → x .channel ≡ channelOf e
+unfolding channelOf
+alone e p f = ap (λ (s : Side). s .channel) (f ∙ ap₂ besideOf p p) ∙ channel-placed (placed e) (placed e)

@@ -1,0 +1,45 @@
+-- What the panel works with on the way to a needle, for the contracts of its inner functions: two sides, each worked out beside the other.
+use Prim.Native.Nat.{ℕ, _+_}
+use mathlib.Core.Bool.{cond}
+use lib.IntN.{ℤ, pos, _-ℤ_}
+use lib.Signed.{ltZ}
+use Rattle.refusals.specs.Number.{numberOf}
+use Rattle.sea.specs.declared.Sounding.{Sounding}
+use Rattle.sea.specs.Water.{soundingOf}
+use Rattle.readings.specs.declared.Point.{Point}
+use Rattle.readings.specs.declared.Checked.{Checked}
+use Rattle.channels.specs.declared.Channel.{Channel}
+use Rattle.channels.specs.declared.Needle.{Needle}
+use Rattle.channels.specs.declared.Comparison.{Comparison}
+use Rattle.panel.specs.declared.Side.{Side}
+
+-- the pressure of what was put on the grid; a refused one has none, and 0 is never the greater
+abbrev pub pressureOf : Checked → ℤ
+pressureOf (Checked.Taken p) = p .pi
+pressureOf (Checked.Refused r) = pos 0
+
+-- the greater of two
+unfoldable pub commonOf : Checked → Checked → ℤ
+commonOf a b = cond (ltZ (pressureOf a) (pressureOf b)) (pressureOf b) (pressureOf a)
+
+-- a side: its channel, and its density under the common pressure
+abbrev pub sideOf : Point → Sounding → Side
+sideOf p (Sounding.Known d k u) = record { channel = Channel.Accepted p d k; under = u }
+sideOf p (Sounding.Refused r) = record { channel = Channel.Refused r; under = 0 }
+
+unfoldable pub besideOf : Checked → Checked → Side
+besideOf (Checked.Taken p) other = sideOf p (soundingOf (p .sigma) (p .tau) (p .pi) (commonOf (Checked.Taken p) other))
+besideOf (Checked.Refused r) other = record { channel = Channel.Refused r; under = 0 }
+
+-- the needle between two sides
+abbrev pub needleFrom : Channel → Channel → ℕ → ℕ → Needle
+needleFrom (Channel.Refused r) c l m = Needle.Refused (100 + numberOf r)
+needleFrom (Channel.Accepted p d k) (Channel.Refused r) l m = Needle.Refused (200 + numberOf r)
+needleFrom (Channel.Accepted p d k) (Channel.Accepted q c j) l m = Needle.Value (pos m -ℤ pos l)
+
+abbrev pub needleBetween : Side → Side → Needle
+needleBetween l r = needleFrom (l .channel) (r .channel) (l .under) (r .under)
+
+-- both sides and their needle (`compared` of proofs/Pairing: of two entries it is their comparison)
+abbrev pub comparedFrom : Side → Side → Comparison
+comparedFrom l r = record { left = l .channel; right = r .channel; needle = needleBetween l r }

@@ -1,0 +1,21 @@
+-- What the C call for a needle tells is what `panel::paired` tells of the same two reports, so that all that is pledged of its needle holds of the
+-- third word. `Learnt` is a contract as the checker reads it off the source. Assumes nothing.
+use mathlib.Core.Path.{_≡_, sym, ap, ap₂, _∙_}
+use contract.Lifetimes
+use lib.Seq.{sets}
+use Rattle.channels.specs.declared.Comparison.{Comparison}
+use Rattle.channels.specs.Numbers.{needleNumber}
+use Rattle.panel.specs.Panel.{comparisonOf}
+use Rattle.panel.proofs.paired.Reads as paired
+use Rattle.abi.specs.Abi.{entryOf, comparisonWords}
+use Rattle.warpsorrel.proofs.warpsorrel_needle.Reads as needle
+
+pub needle-told :
+    (κs : Lifetimes.Lfts 1) (a : _) (r : _) (s : _) → needle.Learnt κs a r s → (κs′ : Lifetimes.Lfts 0) (b : _) (m : _) (t : _) → paired.Learnt κs′ b m t →
+    b .0 ≡ entryOf (a .0) (a .1 .0) (a .1 .1 .0) (a .1 .1 .1 .0) →
+    b .1 .0 ≡ entryOf (a .1 .1 .1 .1 .0) (a .1 .1 .1 .1 .1 .0) (a .1 .1 .1 .1 .1 .1 .0) (a .1 .1 .1 .1 .1 .1 .1 .0) →
+    (r ≡ needleNumber (m .needle)) × (s .1 .1 .1 .1 .1 .1 .1 .1 .0 .now ≡ sets (a .1 .1 .1 .1 .1 .1 .1 .1 .0 .now) 0 (comparisonWords m))
+needle-told κs a r s told κs′ b m t paired-told left right =
+    let e = sym (paired-told ∙ ap₂ comparisonOf left right) in
+    let out = a .1 .1 .1 .1 .1 .1 .1 .1 .0 .now in
+    (told .0 ∙ ap (λ (x : Comparison). needleNumber (x .needle)) e, told .1 ∙ ap (λ (x : Comparison). sets out 0 (comparisonWords x)) e)
