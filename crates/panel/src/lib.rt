@@ -16,12 +16,16 @@ pub struct Side {
     pub under: u32,
 }
 
-// What becomes of what stands in a channel: its grid numbers, or its refusal.
+// What becomes of what stands in a channel: its grid numbers, or its refusal. A check's answer is told apart at once and not handed on as it is: a
+// missing probe's then needs no room in memory.
 pub fn entered(entry: Entry) -> Checked
     ensures { λ r. ⌜ r ≡ entered entry ⌝ }
 {
     match entry {
-        Entry::Reading(report) => readings::check(report),
+        Entry::Reading(report) => match readings::check(report) {
+            Checked::Taken(at) => Checked::Taken(at),
+            Checked::Refused(why) => Checked::Refused(why),
+        },
         Entry::Refused(why) => Checked::Refused(why.refusal()),
     }
 }
