@@ -16,7 +16,7 @@ use Rattle.panel.proofs.Sizes.{accepted-shows}
 turned : (a b : ℕ) → pos a -ℤ pos b ≡ negℤ (pos b -ℤ pos a)
 turned a b = let z = pos b -ℤ pos a in same (pos a -ℤ pos b) (negℤ z) (omega (arith, sub-is (pos a) (pos b), sub-is (pos b) (pos a), neg-plus z, neg-minus z))
 
--- the pressure in common: no less than either, one of the two, and the same either way
+-- the pressure in common: no less than either, no more than what both are no more than, and the same either way round
 pub common-least : (p q : Point) → (plus (p .pi) ≤ common p q) × (plus (q .pi) ≤ common p q)
 common-least p q = (omega arith, omega arith)
 
