@@ -1,4 +1,4 @@
--- The shown density against the formula's: in 10⁻⁶ the density before rounding is at most 101 below it and 100 above, for D and
+-- The shown density against the formula's: in 10⁻⁶ the density before rounding is at most 42 below it and 40 above, for D and
 -- K as near as proofs/Error has them; rounding to 0.001 adds 500. Assumes nothing.
 use Prim.Native.Nat.{ℕ, _+_, _*_, _/_, _≤_, _<_}
 use mathlib.Core.Path.{_≡_, sym, ap, subst₂}
@@ -6,14 +6,14 @@ use native.Mathlib.Omega.{arith}
 use native.Mathlib.Nat.{mul-le-mul-right, mul-le-mul-left, mul-pos}
 use lib.IntN.{ℤ, pos, _-ℤ_}
 use Rattle.whole.specs.Arith.{plus}
-use Rattle.whole.specs.Fraction.{Frac, over, _⊖_, _⊗_, _⊘_}
+use Rattle.whole.specs.Fraction.{Frac, over, units, _⊖_, _⊗_, _⊘_}
 use Rattle.whole.proofs.Ints.{no-minus, pos-plus, sub-is}
 use Rattle.whole.proofs.Near.{Near, NearN, near-nat}
 use Rattle.sea.specs.declared.Rows.{Rows}
 use Rattle.sea.specs.Recipe.{surface, bulkOf, mass, net, gain, density, shown, shownOf}
 use Rattle.sea.specs.Sizes.{Sizes, Ranges}
 use Rattle.sea.proofs.Sizes.{ranges, gain-mul, gain-top}
-use Rattle.promises.specs.Formula.{surfaceF, bulkF, pressureF, compressedF, densityF}
+use Rattle.promises.specs.Formula.{grid, surfaceF, bulkF, pressureF, compressedF, densityAt, densityF}
 use Rattle.promises.proofs.Error.{Nears, near-D, near-K}
 
 -- ---- the numbers alone: what the recipe has, m, N, π and the gain t
@@ -24,45 +24,45 @@ record Recipe (m t N π : ℕ) : Type 0 where
   N-large : 1_934_000_000 ≤ N
   π-small : π ≤ 100_000
 
--- and how near the formula is to it: D is f/g, K is h/L, and K − P is Y/(100·L)
+-- and how near the formula is to it: D is f/g, K is h/L, and K − P is Y/(100,000·L)
 record Exact (m N π f g h L Y : ℕ) : Type 0 where
   f-low : 1_000 * m * g ≤ 1_000_000_000 * f + 25_300 * g
   f-high : 1_000_000_000 * f ≤ 1_000 * m * g + 26_300 * g
-  Y-is : 100 * h ≡ Y + π * L
-  Y-low : N * L ≤ 1_000 * Y + 410 * L
-  Y-high : 1_000 * Y ≤ N * L + 411 * L
+  Y-is : 100_000 * h ≡ Y + 1_000 * π * L
+  Y-low : N * L ≤ Y + 410 * L
+  Y-high : Y ≤ N * L + 411 * L
 
 module _ (m t N π f g h L Y : ℕ) (w : Recipe m t N π) (e : Exact m N π f g h L Y) where
-  -- D is at most m + 26.3, and what the pressure adds to that at most t + 74.7
-  gain-above : (10 * m + 263) * (π * L) ≤ (10 * t + 747) * Y
+  -- D is at most m + 26.3, and what the pressure adds to that at most t + 15.7
+  gain-above : (10 * m + 263) * (1_000 * π * L) ≤ (10 * t + 157) * Y
   gain-above =
-      let whole : (10 * m + 263) * (1_000 * π) + (10 * t + 747) * 410 ≤ (10 * t + 747) * N = omega (arith, w .high, w .t-small, w .N-large, w .π-small) in
-      omega (arith, mul-le-mul-right L whole, mul-le-mul-left (10 * t + 747) (e .Y-low))
+      let whole : (10 * m + 263) * (1_000 * π) + (10 * t + 157) * 410 ≤ (10 * t + 157) * N = omega (arith, w .high, w .t-small, w .N-large, w .π-small) in
+      omega (arith, mul-le-mul-right L whole, mul-le-mul-left (10 * t + 157) (e .Y-low))
 
-  formula-high : 1_000_000 * f * (100 * h) ≤ (m + t + 101) * (g * Y)
+  formula-high : 1_000_000 * f * (100_000 * h) ≤ (m + t + 42) * (g * Y)
   formula-high =
-      let sum : (10 * m + 263) * (Y + π * L) ≤ (10 * m + 10 * t + 1_010) * Y = omega (arith, gain-above) in
+      let sum : (10 * m + 263) * (Y + 1_000 * π * L) ≤ (10 * m + 10 * t + 420) * Y = omega (arith, gain-above) in
       let D : 10_000_000 * f ≤ (10 * m + 263) * g = omega (arith, e .f-high) in
-      rw (e .Y-is) (omega (arith, mul-le-mul-right (Y + π * L) D, mul-le-mul-left g sum))
+      rw (e .Y-is) (omega (arith, mul-le-mul-right (Y + 1_000 * π * L) D, mul-le-mul-left g sum))
 
-  -- D is at least m − 25.3, and what the pressure adds to that at least t − 74.7
-  gain-below : 10 * t * Y + 253 * (π * L) ≤ 10 * m * (π * L) + 747 * Y
+  -- D is at least m − 25.3, and what the pressure adds to that at least t − 14.7
+  gain-below : 10 * t * Y + 253 * (1_000 * π * L) ≤ 10 * m * (1_000 * π * L) + 147 * Y
   gain-below =
       omega (arith, mul-le-mul-left t (e .Y-high), mul-le-mul-right L (w .low), mul-le-mul-right L (w .t-small), mul-le-mul-right L (w .π-small), mul-le-mul-right L (w .N-large), e .Y-low)
 
-  formula-low : (m + t) * (g * Y) ≤ 1_000_000 * f * (100 * h) + 100 * (g * Y)
+  formula-low : (m + t) * (g * Y) ≤ 1_000_000 * f * (100_000 * h) + 40 * (g * Y)
   formula-low =
       let D : 10 * m * g ≤ 10_000_000 * f + 253 * g = omega (arith, e .f-low) in
-      rw (e .Y-is) (omega (arith, mul-le-mul-left g gain-below, mul-le-mul-right (Y + π * L) D))
+      rw (e .Y-is) (omega (arith, mul-le-mul-left g gain-below, mul-le-mul-right (Y + 1_000 * π * L) D))
 
 -- ---- so for any D and K near to the recipe's
 -- the upper number of K − P, for K = h/L
 netF : ℕ → ℕ → ℕ → ℕ
-netF h L π = plus ((over h L ⊖ pressureF π) .num)
+netF h L π = plus ((over h L ⊖ pressureF (grid (pos π))) .num)
 
 module _ (m t N π f g h L : ℕ) (w : Recipe m t N π) (e : Exact m N π f g h L (netF h L π)) (g-above : 0 < g) (L-above : 0 < L) where
-  near-compressed : Near 1_000_000 (compressedF (over f g) (over h L) π) (pos (m + t)) 100 101
-  unfolding compressedF netF _⊖_ _⊗_ _⊘_
+  near-compressed : Near 1_000_000 (compressedF (over f g) (over h L) (pressureF (grid (pos π)))) (pos (m + t)) 40 42
+  unfolding compressedF pressureF units netF _⊖_ _⊗_ _⊘_
   near-compressed =
       let Y = netF h L π in
       record {
@@ -81,20 +81,20 @@ module _ (d : ℕ) (D : Frac) (n : NearN 1_000_000_000 D d 25_212 25_225) where
 
 -- N is K − P in 10⁻⁵ bar, rounded down
 module _ (k π N : ℕ) (is : N + 1_000 * π ≡ k / 10_000) (large : 1_934_000_000 ≤ N) (K : Frac) (n : NearN 1_000_000_000 K k 4_095_041 4_095_065) where
-  Y-is : 100 * plus (K .num) ≡ netF (plus (K .num)) (K .den) π + π * K .den
-  unfolding netF _⊖_
+  Y-is : 100_000 * plus (K .num) ≡ netF (plus (K .num)) (K .den) π + 1_000 * π * K .den
+  unfolding netF pressureF units _⊖_ _⊗_
   Y-is =
       let h = plus (K .num) in
       let big : 19_340_000_000_000 + 10_000_000 * π ≤ k = omega arith in
-      let more : π * K .den < h * 100 = omega (arith, n .low, n .above, mul-le-mul-right (K .den) big) in
-      let x = pos (h * 100) in
-      let y = pos (π * K .den) in
+      let more : 1_000 * π * K .den < h * 100_000 = omega (arith, n .low, n .above, mul-le-mul-right (K .den) big) in
+      let x = pos (h * (1 * 100_000)) in
+      let y = pos (1_000 * π * K .den) in
       omega (arith, sub-is x y, no-minus (x -ℤ y) (omega (arith, sub-is x y)))
 
-  Y-low : N * K .den ≤ 1_000 * netF (plus (K .num)) (K .den) π + 410 * K .den
+  Y-low : N * K .den ≤ netF (plus (K .num)) (K .den) π + 410 * K .den
   Y-low = let cut : 10_000 * N + 10_000_000 * π ≤ k = omega arith in omega (arith, n .low, Y-is, mul-le-mul-right (K .den) cut)
 
-  Y-high : 1_000 * netF (plus (K .num)) (K .den) π ≤ N * K .den + 411 * K .den
+  Y-high : netF (plus (K .num)) (K .den) π ≤ N * K .den + 411 * K .den
   Y-high = let cut : k ≤ 10_000 * N + 10_000_000 * π + 9_999 = omega arith in omega (arith, n .high, Y-is, mul-le-mul-right (K .den) cut)
 
 as-over : (F : Frac) → 0 < plus (F .num) → F ≡ over (plus (F .num)) (F .den)
@@ -103,10 +103,10 @@ as-over F h = ap (λ z. record { num = z; den = F .den }) (pos-plus (F .num) (no
 -- the density before rounding, in 10⁻⁶
 pub near-density : (d k : ℤ) (π : ℕ) (D K : Frac) → π ≤ 100_000 → Ranges d k π →
     Near 1_000_000_000 D d 25_212 25_225 → Near 1_000_000_000 K k 4_095_041 4_095_065 →
-    Near 1_000_000 (compressedF D K π) (pos (density d k π)) 100 101
+    Near 1_000_000 (compressedF D K (pressureF (grid (pos π)))) (pos (density d k π)) 40 42
 unfolding density mass
 near-density d k π D K hπ g n l =
-    subst₂ (λ A B. Near 1_000_000 (compressedF A B π) (pos (m + t)) 100 101) (sym (as-over D (dn .positive))) (sym (as-over K (kn .positive)))
+    subst₂ (λ A B. Near 1_000_000 (compressedF A B (pressureF (grid (pos π)))) (pos (m + t)) 40 42) (sym (as-over D (dn .positive))) (sym (as-over K (kn .positive)))
     (near-compressed m t N π _ _ _ _ w e (dn .above) (kn .above))
   where
     m : ℕ
@@ -138,23 +138,27 @@ near-density d k π D K hπ g n l =
         }
 
 -- the shown density, said in 10⁻⁴
-pub near-shown : {f : Frac} (d k : ℤ) (π : ℕ) → Near 1_000_000 f (pos (density d k π)) 100 101 → Near 10_000 f (pos (10 * shown d k π)) 6 6
+pub near-shown : {f : Frac} {a b : ℕ} (d k : ℤ) (π e : ℕ) → Near 1_000_000 f (pos (density d k π)) a b → a + 500 ≤ 100 * e → b + 499 ≤ 100 * e → Near 10_000 f (pos (10 * shown d k π)) e e
 unfolding shown
-near-shown {f} d k π n =
+near-shown {f} {a} {b} d k π e n ha hb =
     let low : 1_000 * shown d k π ≤ density d k π + 500 = omega arith in
     let high : density d k π ≤ 1_000 * shown d k π + 499 = omega arith in
+    let i = f .den in
     record {
       above = n .above;
-      low = omega (arith, n .low, mul-le-mul-right (f .den) low);
-      high = omega (arith, n .high, mul-le-mul-right (f .den) high);
+      low = omega (arith, n .low, mul-le-mul-right i low, mul-le-mul-right i ha);
+      high = omega (arith, n .high, mul-le-mul-right i high, mul-le-mul-right i hb);
     }
 
 -- ---- over any row values in their boxes and near the exact rows, and any fraction near the root
 module _ (r : Rows) (z : Sizes r) (τ : ℤ) (e : Nears r τ) (σ w π : ℕ) (hσ : σ ≤ 42_000) (hw : w ≤ 64_807) (hπ : π ≤ 100_000)
     (x : Frac) (v : Near 100_000 x (pos w) 0 1) where
+  pub density-near : Near 1_000_000 (densityF σ x τ π) (pos (density (surface r σ w) (bulkOf r σ w π) π)) 40 42
+  unfolding densityF densityAt
+  density-near =
+      near-density (surface r σ w) (bulkOf r σ w π) π (surfaceF (grid (pos σ)) x (grid τ)) (bulkF (grid (pos σ)) x (grid τ) (grid (pos π))) hπ
+      (ranges r z σ w hσ hw π hπ) (near-D τ σ w hσ hw x v r z e) (near-K τ σ w hσ hw x v r z e π hπ)
+
   pub shown-near : Near 10_000 (densityF σ x τ π) (pos (10 * shownOf r σ w π)) 6 6
-  unfolding shownOf densityF
-  shown-near =
-      near-shown (surface r σ w) (bulkOf r σ w π) π
-      (near-density (surface r σ w) (bulkOf r σ w π) π (surfaceF σ x τ) (bulkF σ x τ π) hπ (ranges r z σ w hσ hw π hπ)
-      (near-D τ σ w hσ hw x v r z e) (near-K τ σ w hσ hw x v r z e π hπ))
+  unfolding shownOf
+  shown-near = near-shown (surface r σ w) (bulkOf r σ w π) π 6 density-near (omega arith) (omega arith)

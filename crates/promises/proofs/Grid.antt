@@ -7,13 +7,13 @@ use Rattle.whole.specs.Fraction.{Frac, over, _≤F_, _⊗_}
 use Rattle.whole.proofs.Interval.{Between}
 use Rattle.whole.proofs.Near.{Near, to-≤F, of-≤F}
 use Rattle.whole.proofs.Roots.{Root, root-is}
-use Rattle.sea.specs.Recipe.{rowsAt, rootAt, surface, bulkOf, shownAt}
+use Rattle.sea.specs.Recipe.{rowsAt, rootAt, surface, bulkOf, density, shownAt}
 use Rattle.sea.specs.Sizes.{Sizes, Ranges}
 use Rattle.sea.proofs.Sizes.{between, sizes, root-small, ranges}
 use Rattle.promises.specs.Formula.{densityF}
 use Rattle.promises.specs.Promises.{OnGrid, Rooted, Sample, formula, panel}
 use Rattle.promises.proofs.Error.{nears}
-use Rattle.promises.proofs.Close.{shown-near}
+use Rattle.promises.proofs.Close.{density-near, shown-near}
 
 -- ---- the root
 module _ (σ : ℕ) (h : σ ≤ 42_000) where
@@ -55,6 +55,11 @@ module _ {σ : ℕ} {τ : ℤ} {π : ℕ} (g : OnGrid σ τ π) where
 
   pub numbers-lie : Ranges (surface (rowsAt τ) σ (rootAt σ)) (bulkOf (rowsAt τ) σ (rootAt σ) π) π
   numbers-lie = ranges (rowsAt τ) rows-lie σ (rootAt σ) (g .salt) (root-high σ (g .salt)) π (g .deep)
+
+  -- before rounding to 0.001, in 10⁻⁶
+  pub density-at-near : (x : Frac) → Rooted σ x → Near 1_000_000 (densityF σ x τ π) (pos (density (surface (rowsAt τ) σ (rootAt σ)) (bulkOf (rowsAt τ) σ (rootAt σ) π) π)) 40 42
+  density-at-near x v =
+      density-near (rowsAt τ) rows-lie τ (nears τ warmth) σ (rootAt σ) π (g .salt) (root-high σ (g .salt)) (g .deep) x (rooted-near σ x v)
 
   pub shown-at-near : (x : Frac) → Rooted σ x → Near 10_000 (densityF σ x τ π) (pos (10 * shownAt σ τ π)) 6 6
   unfolding shownAt
