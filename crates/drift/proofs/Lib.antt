@@ -1,0 +1,7 @@
+pub mod Lies
+pub mod Slopes
+pub mod Course
+pub mod Root
+pub mod Cell
+pub mod Cover
+pub mod Shown
