@@ -15,7 +15,7 @@ use Rattle.whole.proofs.Ints.{add-is, mul-plus, mul-minus, Floored, floored, to
 use Rattle.floats.proofs.Floors.{across, under, floor-order}
 use Rattle.floats.specs.Grid.{finite, numer, denom, Range, inside, gridNo, AtMost, Same}
 
-denom-pos : (x : Float) → 0 < denom x
+pub denom-pos : (x : Float) → 0 < denom x
 denom-pos nan = lit< tt
 denom-pos (inf s) = lit< tt
 denom-pos (fin s m e) = down-pos e
@@ -39,10 +39,10 @@ module _ (k : ℕ) (x : Float) where
   w-is : plus w + minus a * (2 * k) ≡ minus w + (plus a * (2 * k) + b)
   w-is = omega (arith, add-is (a *ℤ pos (2 * k)) (pos b) .is, mul-plus a (pos (2 * k)), mul-minus a (pos (2 * k)))
 
-  low : 2 * b * plus (gridNo k x) + minus a * (2 * k) ≤ plus a * (2 * k) + b + 2 * b * minus (gridNo k x)
+  pub low : 2 * b * plus (gridNo k x) + minus a * (2 * k) ≤ plus a * (2 * k) + b + 2 * b * minus (gridNo k x)
   low = omega (arith, steps .low, w-is)
 
-  high : plus a * (2 * k) + b + 2 * b * minus (gridNo k x) < 2 * b * plus (gridNo k x) + minus a * (2 * k) + 2 * b
+  pub high : plus a * (2 * k) + b + 2 * b * minus (gridNo k x) < 2 * b * plus (gridNo k x) + minus a * (2 * k) + 2 * b
   high = omega (arith, steps .high, w-is)
 
 -- ---- what the words say: by multiplying across, and no more

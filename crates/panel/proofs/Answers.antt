@@ -4,14 +4,16 @@ use Prim.Native.Nat.{ℕ}
 use mathlib.Core.Path.{_≡_, refl, sym, _∙_, subst, ap}
 use mathlib.Core.Option.{some}
 use native.Mathlib.Omega.{arith}
+use lib.Dec.{T}
 use Rattle.refusals.specs.declared.Refusal.{Refusal}
 use Rattle.refusals.specs.declared.Unread.{Unread}
 use Rattle.refusals.specs.Number.{refusalOf}
+use Rattle.floats.specs.Grid.{inside}
 use Rattle.readings.specs.declared.Point.{Point}
 use Rattle.readings.specs.declared.Report.{Report}
 use Rattle.readings.specs.declared.Reading.{Reading}
 use Rattle.readings.specs.declared.Checked.{Checked}
-use Rattle.readings.specs.Check.{givenOf, checkedOf}
+use Rattle.readings.specs.Check.{salinities, givenOf, checkedOf}
 use Rattle.readings.proofs.Reasons.{OnGrid, Gridded, Reason}
 use Rattle.readings.proofs.Answers as reading
 use Rattle.waters.specs.declared.Water.{Water}
@@ -65,6 +67,17 @@ accepted-gridded report r p d k g e = go (subst (Case (Entry.Reading report)) e 
   where
     go : Case (Entry.Reading report) (Channel.Accepted p d k) → Gridded r p
     go (accepted _ _ _ _ c w) = reading.taken-gridded report r p g c
+
+-- and its salinity was inside the range
+pub accepted-inside :
+    (report : Report) (r : Reading) (p : Point) (d k : ℕ) →
+    givenOf report ≡ some r →
+    channelOf (Entry.Reading report) ≡ Channel.Accepted p d k →
+    T (inside salinities (r .salinity))
+accepted-inside report r p d k g e = go (subst (Case (Entry.Reading report)) e (case-of (Entry.Reading report)))
+  where
+    go : Case (Entry.Reading report) (Channel.Accepted p d k) → T (inside salinities (r .salinity))
+    go (accepted _ _ _ _ c w) = reading.taken-inside report r p g c
 
 -- ---- a reading is refused only for a listed reason
 pub refused-only : (report : Report) (r : Refusal) → channelOf (Entry.Reading report) ≡ Channel.Refused r → Reason report r

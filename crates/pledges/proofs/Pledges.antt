@@ -28,12 +28,12 @@ use Rattle.promises.proofs.Promises as promise
 use Rattle.pledges.specs.Pledges.{formulaAt, AnswerWithin, AnswerStiffer, Shows, SaltierReading, DeeperReading, Sides, NeedleToRight, NeedleToLeft, NeedleNear}
 
 -- an accepted channel's point, in the promises' words
-on-grid : (e : Entry) (p : Point) (d k : ℕ) → Channel.Accepted p d k ≡ channelOf e → OnGrid (plus (p .sigma)) (p .tau) (plus (p .pi))
+pub on-grid : (e : Entry) (p : Point) (d k : ℕ) → Channel.Accepted p d k ≡ channelOf e → OnGrid (plus (p .sigma)) (p .tau) (plus (p .pi))
 on-grid e p d k h =
     let t = accepted-table e p d k (sym h) in
     record { salt = natural (t .salinity) .most; cold = t .temperature .low; warm = t .temperature .high; deep = natural (t .pressure) .most }
 
-shows : (e : Entry) (p : Point) (d k : ℕ) → Channel.Accepted p d k ≡ channelOf e → Shown (p .sigma) (p .tau) (p .pi) d k
+pub shows : (e : Entry) (p : Point) (d k : ℕ) → Channel.Accepted p d k ≡ channelOf e → Shown (p .sigma) (p .tau) (p .pi) d k
 shows e p d k h = accepted-shows e p d k (sym h)
 
 pub shown-within : AnswerWithin
@@ -65,7 +65,7 @@ deeper-at e f p q d k c j h i s t π =
     let l : c ≡ shownAt (plus (p .sigma)) (p .tau) (plus (q .pi)) = shows f q c j i .density-is ∙ rw (s, t) in
     omega (arith, shows e p d k h .density-is, l, promise.deeper (plus (p .sigma)) (p .tau) (plus (p .pi)) (plus (q .pi)) g g′ (more π))
 
-gridded : (x : Reading) (d : ℕ) (a : Shows x d) → Gridded x (a .point)
+pub gridded : (x : Reading) (d : ℕ) (a : Shows x d) → Gridded x (a .point)
 gridded x d a = accepted-gridded (a .report) x (a .point) d (a .bulk) (a .reading-is) (sym (a .channel-is))
 
 number-same : (k : ℕ) (u v : Float) (m n : ℤ) → m ≡ gridNo k u → n ≡ gridNo k v → Same u v → m ≡ n

