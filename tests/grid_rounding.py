@@ -1,14 +1,15 @@
 #!/usr/bin/env python3
-"""Measures what putting readings on the grid adds to the error of a shown density and of a needle.
+"""Measures how much is used of what is proved of a shown density and of a needle, and what of it putting readings on the grid adds.
 
     python3 tests/grid_rounding.py COMMAND ...      the command that starts the driver (tests/driver.c)
 
-Proved is how near a shown density is to the published formula at the grid numbers: 0.0006 kg/m3. A float as sent is up to half a step
-away from its grid number: 0.0005 of salinity, 0.0005 degrees C, 0.005 bar. What that changes in the formula is scanned here over the whole
-accepted range, and then sampled through the compiled panel, with floats as near to half a step as floats come. A needle's formula is that
-of both waters as sent at the greater of the two pressures as sent: both share its half step, so that salinity and temperature matter most
-there. It is a measurement, no proof. The documents' words are the bounds below: the test fails where one is exceeded, and where a search
-comes to under 0.9 of one.
+Proved is how near a shown density is to the published formula: 0.0006 kg/m3 at the grid numbers, 0.0014 at the floats as sent; and how near a
+needle is to the formula's difference, both waters at the greater of the two pressures: 0.0012 on the grid, 0.0028 as sent. A float as sent is
+up to half a step away from its grid number: 0.0005 of salinity, 0.0005 degrees C, 0.005 bar. What that changes in the formula is scanned here
+over the whole accepted range, and then sampled through the compiled panel, with floats as near to half a step as floats come. Both waters of a
+needle share the half step of the greater pressure, so that salinity and temperature matter most there. It is a measurement, in doubles where
+nothing hangs on them; tests/sampling.py holds the proved sentences in exact fractions. The documents' words are the bounds below: the test
+fails where one is exceeded, and where a search comes to under 0.9 of a half step's or of a density's as sent, or 0.75 of another.
 """
 import random
 import struct
@@ -22,13 +23,13 @@ from math import floor, isqrt, sqrt
 sys.dont_write_bytecode = True
 import coefficients  # as UNESCO's papers print them, held to SPEC and to the code
 
-# kg/m3: half a step in each, in the first two and in all three, what is proved, and the sum of the last two. For a needle, whose waters share
-# a pressure, twice what is proved and half a step in the first two.
+# kg/m3, measured: half a step in each, in the first two and in all three.
 BOUNDS = {"salinity": 0.00043, "temperature": 0.00023, "pressure": 0.00027, "salinity and temperature": 0.00059, "together": 0.0008}
-PROVED = 0.0006
-WHOLE = 0.0014
-WHOLE_NEEDLE = 2 * (PROVED + BOUNDS["salinity and temperature"])
-# From this needle on no pair's waters, as sent, lie the other way: it is more than twice the whole.
+# Proved: of a shown density, on the grid and as sent, which is the sum of that and of all three half steps; of a needle, twice as much. A needle's
+# waters share a pressure, so that as sent little more than both waters' half steps in the first two is added to the grid's.
+PROVED, PROVED_SENT = 0.0006, 0.0014
+NEEDLE, NEEDLE_SENT = 2 * PROVED, 2 * PROVED_SENT
+# Proved: from this needle on no pair's waters, as sent, lie the other way: it is more than a needle's error as sent. A needle of 2 may.
 SURE_NEEDLE = 3
 
 RANGES = (0.0, 42.0), (-2.0, 40.0), (0.0, 1_000.0)
@@ -37,8 +38,10 @@ HALF = tuple(0.5 / steps for steps in STEPS)
 POINTS = 85, 85, 101
 UNIFORM, NEAR = 100_000, 50_000  # readings sampled
 LEVELS, WATERS = 20, 2_500  # pressures, and waters at each of them, of which all pairs are sampled
-# A pair as sent, left and right: the needle says +2, the formula at the right's pressure that the right is lighter.
-EXAMPLE = (40.0695, 33.1105003, 0.4), (40.1355019, 33.2444992, 9.05)
+# In few decimals, found by search. A pair as sent, left and right: the needle says +2, the formula at the right's pressure that the right is
+# lighter. And a reading as sent whose shown density is about as far from the formula as it comes.
+EXAMPLE = (41.5695, 39.9095, 0.4), (41.5465, 39.8685, 5)
+FAR_EXAMPLE = 41.9575, 39.9585, 0.595
 
 # ---- the published formula, in doubles and in fractions: practical salinity, degrees C, bar; lowest power of the temperature first. The
 # density at the surface goes by salinity to the powers 0, 1, 3/2 and 2, the modulus by these and by the pressure.
@@ -234,6 +237,11 @@ def exact_difference(left, right):
     return r - l_high, r_high - l
 
 
+def used(size, bound, least=0.75):
+    """What to say of a measured size, and whether it is as it should be."""
+    return f"{size:.7f} ({100 * size / bound:.0f} % of the {bound:.4f} proved)", least * bound < size <= bound
+
+
 def place(point):
     return "(%s)" % ", ".join("%.9g" % x for x in point)
 
@@ -243,7 +251,7 @@ def main():
     if not command:
         sys.exit("give the command that starts the driver")
     wrong, rng = [], random.Random(1980)
-    assert PROVED + BOUNDS["together"] <= WHOLE + 1e-12 and 2 * WHOLE < SURE_NEEDLE / 1_000
+    assert PROVED + BOUNDS["together"] <= PROVED_SENT + 1e-12 and NEEDLE_SENT < SURE_NEEDLE / 1_000
 
     # Doubles do here: nowhere as much as 10^-9 from the exact formula.
     off = max(
@@ -271,27 +279,34 @@ def main():
     for _ in range(LEVELS):
         p = to_float(rng.uniform(*RANGES[2]))
         readings += [(*extreme(rng, points["salinity and temperature"])[:2], p) for _ in range(WATERS)]
-    at_level, far, far_at, from_grid, over = {}, 0.0, None, 0.0, 0
+    at_level, grid_level, far, far_at, from_grid, over = {}, {}, 0.0, None, 0.0, 0
     for i, (reading, (refusal, *grid, shown, _)) in enumerate(zip(readings, channels(command, readings))):
         if refusal or grid != [on_grid(x, steps) for x, steps in zip(reading, STEPS)]:
             wrong.append(f"{place(reading)} is refused or put elsewhere on the grid")
             continue
         off = density(*reading) - shown / 1_000
-        from_grid = max(from_grid, abs(density(*(g / steps for g, steps in zip(grid, STEPS))) - shown / 1_000))
+        grid_off = density(*(g / steps for g, steps in zip(grid, STEPS))) - shown / 1_000
+        from_grid = max(from_grid, abs(grid_off))
         over += i < UNIFORM and abs(off) > PROVED
         if abs(off) > far:
             far, far_at = abs(off), reading
         if i >= UNIFORM + NEAR:
             at_level.setdefault(reading[2], {}).setdefault(shown, []).append((off, reading))
-    if from_grid > PROVED:
-        wrong.append(f"{from_grid:.7f} from the formula at the grid numbers")
-    if not 0.9 * WHOLE < far <= WHOLE:
-        wrong.append(f"{far:.7f} from the formula as sent; the bound stated is {WHOLE}")
+            grid_level.setdefault(reading[2], []).append(grid_off)
+    (by_grid, grid_fits), (by_float, float_fits) = used(from_grid, PROVED), used(far, PROVED_SENT, 0.9)
+    if not grid_fits or not float_fits:
+        wrong.append("a shown density's error is over what is proved, or far below it")
     print(
-        f"grid rounding: {UNIFORM} readings drawn evenly and {len(readings) - UNIFORM} near the greatest changes: shown density at most {far:.7f}"
-        f" from the formula as sent, at {place(far_at)}, and {from_grid:.7f} from the formula at the grid numbers; as sent,"
+        f"grid rounding: {UNIFORM} readings drawn evenly and {len(readings) - UNIFORM} near the greatest changes: shown density at most {by_float}"
+        f" from the formula as sent, at {place(far_at)}, and {by_grid} from the formula at the grid numbers; as sent,"
         f" {100 * over / UNIFORM:.1f} % of those drawn evenly are over {PROVED}"
     )
+    far_at = tuple(to_float(x) for x in FAR_EXAMPLE)
+    refusal, *_, shown, _ = channels(command, [far_at])[0]
+    low, high = exactly(*far_at)
+    if refusal or not Fraction(13, 10_000) < shown / Fraction(1_000) - high <= shown / Fraction(1_000) - low <= Fraction(14, 10_000):
+        wrong.append(f"the far reading is not so: refusal {refusal}, density {shown}, formula {float(low)} to {float(high)}")
+    print(f"grid rounding: the far reading: {place(far_at)}: density {shown}, the formula as sent {float(low):.7f}")
 
     # Every pair of waters at one pressure: how far the needle is from the formula as sent; of small needles, how many lie the other way as
     # sent, and the one that does so most. It is also the needle where one of the two stands at any lesser pressure.
@@ -306,8 +321,10 @@ def main():
                 others[n] += sum(bisect_left(offs, off - n / 1_000) for off, _ in lefts)
                 difference = n / 1_000 + rights[0][0] - lefts[-1][0]
                 worst[n] = min(worst[n], (difference, (lefts[-1][1], rights[0][1])))
-    if not 0.9 * WHOLE_NEEDLE < apart <= WHOLE_NEEDLE:
-        wrong.append(f"a needle {apart:.7f} from the formula as sent; the bound stated is {WHOLE_NEEDLE}")
+    grid_apart = max(max(offs) - min(offs) for offs in grid_level.values())
+    (by_grid, grid_fits), (by_float, float_fits) = used(grid_apart, NEEDLE), used(apart, NEEDLE_SENT)
+    if not grid_fits or not float_fits or apart > NEEDLE + 2 * BOUNDS["salinity and temperature"]:
+        wrong.append("a needle's error is over what is proved, or over what was measured, or far below it")
     sure = min(n for n in others if all(others[m] == 0 for m in others if m >= n))
     if sure != SURE_NEEDLE:
         wrong.append(f"the smallest needle with no pair the other way is {sure}")
@@ -325,8 +342,8 @@ def main():
             f" at the greater pressure {float(high):+.6f}"
         )
     print(
-        f"grid rounding: all pairs of {WATERS} waters at each of {LEVELS} pressures: needle at most {apart:.7f} from the formula as sent;"
-        " pairs that lie the other way as sent, and the least difference: "
+        f"grid rounding: all pairs of {WATERS} waters at each of {LEVELS} pressures: needle at most {by_float} from the formula as sent,"
+        f" {by_grid} from the formula at the grid numbers; pairs that lie the other way as sent, and the least difference: "
         + "; ".join(f"needle +{n}: {others[n]}, {worst[n][0]:+.6f}" for n in others)
         + f"; none from +{sure} on"
     )

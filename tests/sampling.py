@@ -330,7 +330,7 @@ SENT, SENT_NEAR, SENT_ANYWHERE = 2_000, 250, 6_000  # grid readings, each sent i
 
 # Found by search: readings whose shown density is about as far from the formula as sent as it comes, below it and above.
 FAR = [
-    (41.9575, 39.9465, 0.405), (41.9225, 39.8835, 0.405), (41.9575, 39.7175, 0.275), (41.8125, 39.9795, 10.045), (41.8125, 39.8985, 2.075),
+    (41.9575, 39.9585, 0.595), (41.9575, 39.8615, 1.955), (41.8125, 39.9795, 10.045), (41.9575, 39.7175, 0.275), (41.9225, 39.8835, 0.405),
     (41.9575, 39.6475, 10.005), (41.9935, 39.9025, 0.015), (41.6185, 39.8125, 0.005), (41.4175, 39.9775, 8.995),
 ]
 # Two waters and the pressure that both are put to, found by search: a needle of 2 for the right one, which is the lighter as sent where the left
