@@ -29,6 +29,11 @@ int oracle_pair(const uint8_t *stream, size_t length, size_t before, struct orac
 /* Both waters at the greater of the two pressures. */
 struct oracle_needle oracle_needle(const struct oracle_channel channels[2]);
 
+/* The published formula in doubles, of a report that is not refused, at the floats as sent: the pressure (bar; 0 at the surface), and the density
+ * (kg/m3) with the water at a pressure. No mode that the processor rounds in changes it by as much as 10^-9. */
+double oracle_pressure(const struct oracle_report *report);
+double oracle_formula(const struct oracle_report *report, double pressure);
+
 /* out has room for the longest line, the longest page. */
 size_t oracle_line(uint32_t number, const struct oracle_channel channels[2], uint8_t *out);
 size_t oracle_page(const uint8_t *stream, size_t length, uint8_t *out);

@@ -22,6 +22,7 @@ SEEDS = {
     "example": surface(0, 5) + surface(35, 5) + MISSING + surface(0, 5),
     "deep": deep(35, 5, 1000) + deep(0, 25, 0),
     "depths": deep(35, 5, 9) + deep(35, 5, 0.4) + surface(35, 5) + deep(0, 25, 9),
+    "half-steps": deep(41.5695, 39.9095, 0.4) + deep(41.5465, 39.8685, 5) + deep(41.9575, 39.9585, 0.595) + surface(41.9935, 39.9025),
     "surface": surface(35, 25) + surface(0, 25),
     "missing": MISSING + MISSING,
     "not-a-number": deep(35, float("nan"), 10) + surface(float("inf"), 5),

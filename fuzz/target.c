@@ -1,8 +1,10 @@
 /* Every input is a stream. Held to the oracle: the count of pairs; the page, its refusal and its count; the first pair, the last, one past
- * the end and two picked by the input's bytes, each by all its words; and channels, needle and line of such a pair's reports. The bytes and
+ * the end and two picked by the input's bytes, each by all its words; and channels, needle and line of such a pair's reports. The densities
+ * and the needle of such a pair are held as well to what is proved of them beside the published formula at the floats as sent. The bytes and
  * words past an answer and beside it have to keep their values; a room that is too short has to be left untouched. The rounding mode and
  * flush-to-zero are the input's choice: they must change nothing. Called with --long, the input is repeated to about 60,000 bytes, the
  * length from which a stream is too long. */
+#include <math.h>
 #include <stdint.h>
 #include <stdio.h>
 #include <stdlib.h>
@@ -99,6 +101,26 @@ static void look_at_line(uint32_t number, struct report l, struct report r, cons
     if (!kept(line_room, sizeof line_room)) fail("a byte beside the line");
 }
 
+/* Proved of a reading as sent, in kg/m3 beside the formula: a shown density within 0.0014; a needle within 0.0028, both waters at the greater
+ * pressure, and from 3 on in the formula's order. The formula is in doubles here, which the allowance is for. */
+#define ALLOWANCE 1e-7
+
+static void look_at_formula(const struct oracle_report reports[2], const struct oracle_channel c[2], struct oracle_needle n) {
+    double pressure[2] = {0, 0};
+    for (int i = 0; i < 2; i++) {
+        if (c[i].refusal) continue;
+        pressure[i] = oracle_pressure(&reports[i]);
+        double off = (double)c[i].density / 1000 - oracle_formula(&reports[i], pressure[i]);
+        if (!(fabs(off) <= 0.0014 + ALLOWANCE)) fail("a density and the formula as sent");
+    }
+    if (n.refusal) return;
+    double most = pressure[0] > pressure[1] ? pressure[0] : pressure[1];
+    double difference = oracle_formula(&reports[1], most) - oracle_formula(&reports[0], most);
+    if (!(fabs((double)n.value / 1000 - difference) <= 0.0028 + ALLOWANCE)) fail("the needle and the formula's difference as sent");
+    if ((n.value >= 3 && !(difference > -ALLOWANCE)) || (n.value <= -3 && !(difference < ALLOWANCE)))
+        fail("the needle and the formula's order as sent");
+}
+
 /* The line is written in a room of WARPSORREL_LINE and in one of lent bytes. */
 static void look_at_pair(const uint8_t *stream, size_t length, size_t before, uint32_t number, size_t lent) {
     struct oracle_report reports[2];
@@ -123,6 +145,7 @@ static void look_at_pair(const uint8_t *stream, size_t length, size_t before, ui
                                          r[1].kind, r[1].salinity, r[1].temperature, r[1].pressure, lend_words());
     if (refusal != n.refusal) fail("the needle's refusal");
     compare_words("the needle", needle, 3);
+    look_at_formula(reports, c, n);
     look_at_line(number, r[0], r[1], c, WARPSORREL_LINE);
     look_at_line(number, r[0], r[1], c, lent);
 }
