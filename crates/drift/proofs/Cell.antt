@@ -1,26 +1,26 @@
 -- A cell of the range: x, v, u and q each in a box, and moved one after the other. How far the density moves in all is computed from the boxes
 -- alone. Assumes nothing.
-use Prim.Native.Nat.{ℕ, _+_, _*_, _≤_, _<_}
+use Prim.Native.Nat.{ℕ, _+_, _*_, _<_}
 use mathlib.Core.Bool.{Bool, cond, false}
 use native.Mathlib.Omega.{arith}
 use lib.Dec.{T, leb, leb→le}
-use lib.IntN.{ℤ, pos}
+use lib.IntN.{ℤ}
 use Rattle.whole.specs.Arith.{plus}
 use Rattle.whole.specs.Order.{Box}
-use Rattle.whole.specs.Fraction.{Frac, _⊖_}
+use Rattle.whole.specs.Fraction.{Frac}
 use Rattle.whole.proofs.Interval.{both}
 use Rattle.whole.proofs.Near.{Near, near-wider}
 use Rattle.promises.specs.Formula.{densityAt}
-use Rattle.drift.proofs.Slopes.{Course, still, moving, inverse, steepest, Stands, Runs, runs-at, runs-here, runs-inverse, near-moved}
-use Rattle.drift.proofs.Course.{surfaceC, bulkC, pressureC, netC, compressedC, densityC, splitAt, runs-surface, runs-bulk, runs-net, runs-split, to-split, of-split}
+use Rattle.drift.proofs.Slopes.{Course, still, moving, inverse, Stands, Apart, steepest, runs-still, runs-here, runs-inverse, near-moved}
+use Rattle.drift.proofs.Course.{surfaceC, pressureC, netC, gainedC, densityC, gainedAt, runs-surface, runs-bulk, runs-net, runs-density, to-gained, of-gained}
 
 -- ---- the test
 -- one of the four moves by at most n, in 10⁻⁷: K is above P all the way, and `rest` is told how far the density moves, in 10⁻¹⁶
 unfoldable pub leg : ℕ → Course → Course → Course → (ℕ → Bool) → Bool
-leg n D P N rest = cond (leb 1 (plus (N .box .lo))) (rest (steepest (compressedC D P N .slope) * n)) false
+leg n D P N rest = cond (leb 1 (plus (N .box .lo))) (rest (steepest (gainedC D P N .slope) * n)) false
 
 unfoldable pub legOf : ℕ → Course → Course → Course → Course → (ℕ → Bool) → Bool
-legOf n v x u q rest = leg n (surfaceC v x u) (pressureC q) (netC (bulkC v x u q) q) rest
+legOf n v x u q rest = leg n (surfaceC v x u) (pressureC q) (netC v x u q) rest
 
 -- the root moves by at most `far`, and v, u and q by half a step, 50: together the density moves by at most 858, in 10⁻⁶
 unfoldable pub held : Box → Box → Box → Box → ℕ → Bool
@@ -32,21 +32,20 @@ held v x u q far =
 
 -- ---- what it shows
 record Leg (n : ℕ) (v x u q : Course) (rest : ℕ → Bool) : Type 0 where
-  firm : 0 < plus (netC (bulkC v x u q) q .box .lo)
+  firm : 0 < plus (netC v x u q .box .lo)
   next : T (rest (steepest (densityC v x u q .slope) * n))
 
 leg-is : (n : ℕ) (v x u q : Course) (rest : ℕ → Bool) → T (legOf n v x u q rest) → Leg n v x u q rest
 unfolding legOf leg
 leg-is n v x u q rest h =
-    let N = netC (bulkC v x u q) q in
-    let k = both (leb 1 (plus (N .box .lo))) (rest (steepest (densityC v x u q .slope) * n)) h in
-    record { firm = leb→le 1 (plus (N .box .lo)) (k .0); next = k .1 }
+    let k = both (leb 1 (plus (netC v x u q .box .lo))) (rest (steepest (densityC v x u q .slope) * n)) h in
+    record { firm = leb→le 1 (plus (netC v x u q .box .lo)) (k .0); next = k .1 }
 
 -- from f to g, both in a box and at most n apart, in 10⁻⁷
 pub record Step (b : Box) (n : ℕ) (f g : Frac) : Type 0 where
   pub from : Stands b f
   pub to : Stands b g
-  pub near : Near 10_000_000 (g ⊖ f) (pos 0) n n
+  pub apart : Apart 10_000_000 n f g
 
 module _
     (bv bx bu bq : Box) (far : ℕ) (h : T (held bv bx bu bq far)) {v v′ x x′ u u′ q q′ : Frac}
@@ -66,12 +65,13 @@ module _
       let small = leb→le (a1 + a2 + a3 + a4) 8_580_000_000_000 (l4 .next) in
       let start = runs-here (sx .from) in
       let stop = runs-here (sq .to) in
-      let firm = runs-inverse (runs-net (runs-at (sv .from)) start (runs-at (su .from)) (runs-at (sq .from))) (l1 .firm) .above in
-      let firm′ = runs-inverse (runs-net (runs-at (sv .to)) (runs-at (sx .to)) (runs-at (su .to)) stop) (l4 .firm) .above in
-      let n1 = to-split v x u q firm (runs-split (runs-at (sv .from)) start (runs-at (su .from)) (runs-at (sq .from)) (l1 .firm) .above) n0 in
-      let n2 = near-moved (λ f. splitAt v f u q) (λ M H f f′ i. runs-split (runs-at (sv .from)) i (runs-at (su .from)) (runs-at (sq .from)) (l1 .firm)) x x′ (sx .from) (sx .to) (sx .near) n1 in
-      let n3 = near-moved (λ f. splitAt f x′ u q) (λ M H f f′ i. runs-split i (runs-at (sx .to)) (runs-at (su .from)) (runs-at (sq .from)) (l2 .firm)) v v′ (sv .from) (sv .to) (sv .near) n2 in
-      let n4 = near-moved (λ f. splitAt v′ x′ f q) (λ M H f f′ i. runs-split (runs-at (sv .to)) (runs-at (sx .to)) i (runs-at (sq .from)) (l3 .firm)) u u′ (su .from) (su .to) (su .near) n3 in
-      let n5 = near-moved (λ f. splitAt v′ x′ u′ f) (λ M H f f′ i. runs-split (runs-at (sv .to)) (runs-at (sx .to)) (runs-at (su .to)) i (l4 .firm)) q q′ (sq .from) (sq .to) (sq .near) n4 in
-      near-wider (a + 8_580_000_000_000) (b + 8_580_000_000_000) (omega arith) (omega arith)
-      (of-split v′ x′ u′ q′ firm′ (runs-surface (runs-at (sv .to)) (runs-at (sx .to)) (runs-at (su .to)) stop .above) (runs-bulk (runs-at (sv .to)) (runs-at (sx .to)) (runs-at (su .to)) stop .above) n5)
+      let firm = runs-inverse (runs-net (runs-still (sv .from)) start (runs-still (su .from)) (runs-still (sq .from))) (l1 .firm) .from .above in
+      let firm′ = runs-inverse (runs-net (runs-still (sv .to)) (runs-still (sx .to)) (runs-still (su .to)) stop) (l4 .firm) .from .above in
+      let n1 = to-gained v x u q firm (runs-density (runs-still (sv .from)) start (runs-still (su .from)) (runs-still (sq .from)) (l1 .firm) .from .above) n0 in
+      let n2 = near-moved (λ f. gainedAt v f u q) (λ M H f g i. runs-density (runs-still (sv .from)) i (runs-still (su .from)) (runs-still (sq .from)) (l1 .firm)) x x′ (sx .from) (sx .to) (sx .apart) n1 in
+      let n3 = near-moved (λ f. gainedAt f x′ u q) (λ M H f g i. runs-density i (runs-still (sx .to)) (runs-still (su .from)) (runs-still (sq .from)) (l2 .firm)) v v′ (sv .from) (sv .to) (sv .apart) n2 in
+      let n4 = near-moved (λ f. gainedAt v′ x′ f q) (λ M H f g i. runs-density (runs-still (sv .to)) (runs-still (sx .to)) i (runs-still (sq .from)) (l3 .firm)) u u′ (su .from) (su .to) (su .apart) n3 in
+      let n5 = near-moved (λ f. gainedAt v′ x′ u′ f) (λ M H f g i. runs-density (runs-still (sv .to)) (runs-still (sx .to)) (runs-still (su .to)) i (l4 .firm)) q q′ (sq .from) (sq .to) (sq .apart) n4 in
+      let D0 = runs-surface (runs-still (sv .to)) (runs-still (sx .to)) (runs-still (su .to)) stop .from .above in
+      let K0 = runs-bulk (runs-still (sv .to)) (runs-still (sx .to)) (runs-still (su .to)) stop .from .above in
+      near-wider (a + 8_580_000_000_000) (b + 8_580_000_000_000) (omega arith) (omega arith) (of-gained v′ x′ u′ q′ firm′ D0 K0 n5)

@@ -11,9 +11,9 @@ use Rattle.whole.specs.Order.{Box}
 use Rattle.whole.proofs.Interval.{_⊞_, only, both}
 use Rattle.sea.specs.Table.{Dw, Ds, Dr, Dss, Kw, Ks, Kr, Aw, As, Ar, Bw, Bs}
 use Rattle.sea.specs.Recipe.{rootAt}
-use Rattle.drift.proofs.Lies.{flip, times, _⊠_}
-use Rattle.drift.proofs.Slopes.{_⊹_, _⊛_, still, moving, along, within, inverted, steepest}
-use Rattle.drift.proofs.Course.{surfaceC, saltedC, bulkC, pressureC, netC, compressedC}
+use Rattle.drift.proofs.Boxes.{flip, times, _⊠_}
+use Rattle.drift.proofs.Slopes.{_⊹_, _⊹-_, _⊛_, still, moving, along, within, inverted, steepest}
+use Rattle.drift.proofs.Course.{surfaceC, saltedC, bulkC, pressureC, gainedC}
 use Rattle.drift.proofs.Root.{Far}
 use Rattle.drift.proofs.Cell.{leg, legOf, held}
 
@@ -78,51 +78,5 @@ unfoldable pub at-warmth : ℕ → ℕ → Bool
 at-warmth tl th = between (at-salt tl th) 0 200 salts
 
 pub all-held : T (between at-warmth 0 3_500 warmths)
-unfolding rootFrom rootOf rootAt _⊞_ only Dw Ds Dr Dss Kw Ks Kr Aw As Ar Bw Bs flip times _⊠_ _⊹_ _⊛_ still moving along within inverted steepest surfaceC saltedC bulkC pressureC netC compressedC leg legOf held around aroundRoot farFrom between at-depth at-root at-salt at-warmth
+unfolding rootFrom rootOf rootAt _⊞_ only Dw Ds Dr Dss Kw Ks Kr Aw As Ar Bw Bs flip times _⊠_ _⊹_ _⊹-_ _⊛_ still moving along within inverted steepest surfaceC saltedC bulkC pressureC gainedC leg legOf held around aroundRoot farFrom between at-depth at-root at-salt at-warmth
 all-held = tt
-
--- ---- the cell of a salinity σ, a temperature of t − 2,000 and a pressure π
-pub record Cell (σ t π : ℕ) : Type 0 where
-  pub sl : ℕ
-  pub sh : ℕ
-  pub tl : ℕ
-  pub th : ℕ
-  pub πl : ℕ
-  pub πh : ℕ
-  pub σ-low : sl ≤ σ
-  pub σ-high : σ ≤ sh
-  pub t-low : tl ≤ t
-  pub t-high : t ≤ th
-  pub π-low : πl ≤ π
-  pub π-high : π ≤ πh
-  pub in-range : sh ≤ 42_000
-  pub far-enough : Far (rootAt sl) (farFrom (rootAt sl))
-  pub test : T (held (around 0 sl sh) (aroundRoot (rootAt sl) (rootAt sh) (farFrom (rootAt sl))) (around 2_000 tl th) (around 0 πl πh) (farFrom (rootAt sl)))
-
-pub cell-of : (σ t π : ℕ) → σ ≤ 42_000 → t ≤ 42_000 → π ≤ 100_000 → Cell σ t π
-unfolding at-warmth at-salt at-root at-depth
-cell-of σ t π hσ ht hπ =
-    let ft = found at-warmth t 0 3_500 warmths all-held (omega arith) ht in
-    let fs = found (at-salt (ft .from) (ft .to)) σ 0 200 salts (ft .test) (omega arith) hσ in
-    let w = rootAt (fs .from) in
-    let far = farFrom w in
-    let one = both (leb (fs .to) 42_000) (at-root (fs .from) (fs .to) w (rootAt (fs .to)) far (ft .from) (ft .to)) (fs .test) in
-    let two = both (leb 500_000_001 (far * max far (200 * w - far))) (between (at-depth (fs .from) (fs .to) w (rootAt (fs .to)) far (ft .from) (ft .to)) 0 40_000 depths) (one .1) in
-    let fp = found (at-depth (fs .from) (fs .to) w (rootAt (fs .to)) far (ft .from) (ft .to)) π 0 40_000 depths (two .1) (omega arith) hπ in
-    record {
-      sl = fs .from;
-      sh = fs .to;
-      tl = ft .from;
-      th = ft .to;
-      πl = fp .from;
-      πh = fp .to;
-      σ-low = fs .low;
-      σ-high = fs .high;
-      t-low = ft .low;
-      t-high = ft .high;
-      π-low = fp .low;
-      π-high = fp .high;
-      in-range = leb→le (fs .to) 42_000 (one .0);
-      far-enough = leb→le 500_000_001 (far * max far (200 * w - far)) (two .0);
-      test = fp .test;
-    }

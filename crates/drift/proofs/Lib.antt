@@ -1,4 +1,4 @@
-pub mod Lies
+pub mod Boxes
 pub mod Slopes
 pub mod Course
 pub mod Root

@@ -6,13 +6,14 @@ use native.Mathlib.Decide.{decLe}
 use native.Mathlib.Nat.{mul-le-mul, mul-le-mul-right, mul-le-mul-left, mul-pos, le-of-mul-le-mul-right, div-mul-le-self, lt-div-mul-add}
 use lib.IntN.{ℤ, pos, negsuc}
 use Rattle.whole.specs.Arith.{plus, minus, rootOf}
-use Rattle.whole.specs.Fraction.{Frac, over, _≤F_, _⊖_, _⊗_}
-use Rattle.whole.proofs.Near.{Near, difference-is, to-≤F, of-≤F}
+use Rattle.whole.specs.Fraction.{Frac, over, _≤F_, _⊗_}
+use Rattle.whole.proofs.Near.{Near, to-≤F, of-≤F}
 use Rattle.whole.proofs.Roots.{Root, root-is}
 use Rattle.sea.specs.Recipe.{rootAt}
 use Rattle.promises.specs.Promises.{Rooted}
 use Rattle.promises.proofs.Grid as grid
 use Rattle.drift.specs.Drift.{RootOf}
+use Rattle.drift.proofs.Slopes.{Apart}
 
 -- ---- the naturals: w is the grid's root in 10⁻⁵ and at least wl, n is the root as sent in 10⁻⁷, and half a step is 500,000,000 of 10⁻¹⁴
 abbrev pub Far : ℕ → ℕ → Type 0
@@ -56,7 +57,7 @@ not-below (negsuc n) h = omega arith
 pub record Root√ (σ : ℕ) (x : Frac) (far : ℕ) : Type 0 where
   pub on-grid : Frac
   pub rooted : Rooted σ on-grid
-  pub near : Near 10_000_000 (x ⊖ on-grid) (pos 0) far far
+  pub apart : Apart 10_000_000 far on-grid x
 
 -- v, from 100·σ − 50 to 100·σ + 50 in 10⁻⁷, and the root n of it
 module _ {v x : Frac} (σ wl far : ℕ) (r : Root (rootAt σ) (σ * 100_000)) (least : wl ≤ rootAt σ) (enough : Far wl far) (near : Near 10_000_000 v (pos (100 * σ)) 50 50) (s : RootOf v x) where
@@ -87,23 +88,15 @@ module _ {v x : Frac} (σ wl far : ℕ) (r : Root (rootAt σ) (σ * 100_000)) (l
   -- an end m of what the grid's root leaves open, where x is no further from it
   end : (m : ℕ) → Rooted σ (over m 100_000) → 10_000_000 * plus (x .num) ≤ (100 * m + far) * x .den + 10_000_000 * minus (x .num) →
       100 * m * x .den + 10_000_000 * minus (x .num) ≤ 10_000_000 * plus (x .num) + far * x .den → Root√ σ x far
-  unfolding _⊖_
-  end m rooted h l =
-      let d = difference-is x (over m 100_000) in
-      record { on-grid = over m 100_000; rooted = rooted; near = record { above = omega (arith, s .fraction); low = omega (arith, d, l); high = omega (arith, d, h) } }
-
-  -- x itself is open
-  itself : Rooted σ x → Root√ σ x far
-  unfolding _⊖_
-  itself rooted =
-      let d = difference-is x x in
-      record { on-grid = x; rooted = rooted; near = record { above = mul-pos (s .fraction) (s .fraction); low = omega (arith, d); high = omega (arith, d) } }
+  end m rooted h l = record { on-grid = over m 100_000; rooted = rooted; apart = record { up = omega (arith, h); down = omega (arith, l) } }
 
   pub root-beside : Root√ σ x far
   root-beside = go (decLe (100 * w * x .den + 10_000_000 * minus (x .num)) (10_000_000 * plus (x .num))) (decLe (10_000_000 * plus (x .num)) (100 * (w + 1) * x .den + 10_000_000 * minus (x .num)))
     where
       go : Dec (100 * w * x .den + 10_000_000 * minus (x .num) ≤ 10_000_000 * plus (x .num)) → Dec (10_000_000 * plus (x .num) ≤ 100 * (w + 1) * x .den + 10_000_000 * minus (x .num)) → Root√ σ x far
-      go (yes a) (yes b) = itself (record { fraction = s .fraction; low = to-≤F (over w 100_000) x (omega arith); high = to-≤F x (over (w + 1) 100_000) (omega arith) })
+      go (yes a) (yes b) =
+          let rooted = grid.rooted-every σ x (s .fraction) (to-≤F (over w 100_000) x (omega arith)) (to-≤F x (over (w + 1) 100_000) (omega arith)) in
+          record { on-grid = x; rooted = rooted; apart = record { up = omega arith; down = omega arith } }
       go (yes a) (no b) =
           let f = up-far w wl n far least enough (omega (arith, square-high, r .high)) in
           end (w + 1) (grid.rooted-every σ (over (w + 1) 100_000) (omega arith) (to-≤F _ _ (omega arith)) (to-≤F _ _ (omega arith))) (omega (arith, x-high, mul-le-mul-right (x .den) f)) (omega arith)

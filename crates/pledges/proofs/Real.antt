@@ -55,22 +55,22 @@ sides-of-both =
     }
 
 -- ---- saltier and deeper: the floats' order is met, and minus zero has the value of zero
-abbrev f0 : Float
+abbrev pub f0 : Float
 f0 = floatOf 0x00 0x00 0x00 0x00
 
-abbrev f5 : Float
+abbrev pub f5 : Float
 f5 = floatOf 0x00 0x00 0xA0 0x40
 
-abbrev f35 : Float
+abbrev pub f35 : Float
 f35 = floatOf 0x00 0x00 0x0C 0x42
 
-abbrev f1000 : Float
+abbrev pub f1000 : Float
 f1000 = floatOf 0x00 0x00 0x7A 0x44
 
-pub shows-fresh : Shows (surfaceOf f0 f5) 999_967
+unfoldable pub shows-fresh : Shows (surfaceOf f0 f5) 999_967
 shows-fresh = record { report = Report.Surface f0 f5; reading-is = refl; point = fresh-at; bulk = 2_033_780; channel-is = sym fresh-is }
 
-pub shows-deep : Shows (deepOf f35 f5 f1000) 1_069_489
+unfoldable pub shows-deep : Shows (deepOf f35 f5 f1000) 1_069_489
 shows-deep =
     record {
       report = Report.Deep f35 f5 f1000;

@@ -21,14 +21,14 @@ use Rattle.panel.proofs.paired.Reads as paired
 use Rattle.promises.specs.Promises.{Within}
 use Rattle.pledges.proofs.Calls as call
 use Rattle.drift.specs.Drift.{RootOf}
-use Rattle.sent.specs.Sent.{vOf, formulaUnder, formulaSent, inCommon, Compares}
+use Rattle.sent.specs.Sent.{vOf, sentUnder, sentAt, commonSent, Compares}
 use Rattle.sent.proofs.Sent as sent
 
 -- ---- one call of `answer` with a report of the reading x, whose answer is an accepted channel
 pub shown-within :
     (κs : Lifetimes.Lfts 0) (a : _) (c : _) (s : _) → answer.Learnt κs a c s →
     (p : Point) (d k : ℕ) → Channel.Accepted p d k ≡ c → (report : Report) (r : Reading) → a .0 ≡ Entry.Reading report → givenOf report ≡ some r →
-    (x : Frac) → RootOf (vOf r) x → Within (over 14 10_000) (pos d) (formulaSent r x)
+    (x : Frac) → RootOf (vOf r) x → Within (over 14 10_000) (pos d) (sentAt r x)
 shown-within κs a c s told p d k is report r e g x v = sent.shown-within r d x (call.shows κs a c s told p d k is report r e g) v
 
 -- ---- one call of `paired` with reports of the readings l and r, whose answer has a needle of z
@@ -48,11 +48,11 @@ module _
       }
 
   module _ (x y : Frac) (v : RootOf (vOf l) x) (w : RootOf (vOf r) y) where
-    pub right-heavier : pos 3 ≤ℤ z → ¬ (formulaUnder (inCommon l r) r y ≤F formulaUnder (inCommon l r) l x)
+    pub right-heavier : pos 3 ≤ℤ z → ¬ (sentUnder (commonSent l r) r y ≤F sentUnder (commonSent l r) l x)
     right-heavier = sent.right-heavier l r z x y compares v w
 
-    pub left-heavier : z ≤ℤ neg 3 → ¬ (formulaUnder (inCommon l r) l x ≤F formulaUnder (inCommon l r) r y)
+    pub left-heavier : z ≤ℤ neg 3 → ¬ (sentUnder (commonSent l r) l x ≤F sentUnder (commonSent l r) r y)
     left-heavier = sent.left-heavier l r z x y compares v w
 
-    pub needle-within : Within (over 28 10_000) z (formulaUnder (inCommon l r) r y ⊖ formulaUnder (inCommon l r) l x)
+    pub needle-within : Within (over 28 10_000) z (sentUnder (commonSent l r) r y ⊖ sentUnder (commonSent l r) l x)
     needle-within = sent.needle-within l r z x y compares v w

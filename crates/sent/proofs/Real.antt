@@ -1,6 +1,7 @@
--- Nothing here is empty, and nothing could be said closer: real readings, by their floats' bits. One is shown more than 0.0013 kg/m³ from the formula
--- as sent; of two others, at two depths, a needle of 2 names the lighter water. Assumes nothing.
-use mathlib.Core.Path.{_≡_, refl, sym, ap₂, _∙_}
+-- Nothing here is empty, and 3 and 0.0014 are the best there are: real readings, by their floats' bits. Of two at two depths, a needle of 2 names the
+-- lighter water; one is shown more than 0.0013 kg/m³ from the formula as sent. Assumes nothing.
+use Prim.Native.Nat.{ℕ}
+use mathlib.Core.Path.{_≡_, refl, sym, ap₂}
 use lib.IntN.{pos}
 use lib.Signed.{leZ-yes}
 use lib.Ieee.{ofBits}
@@ -11,18 +12,36 @@ use Rattle.sea.specs.Recipe.{rowsAt, rootAt, surface, K0, A, B, bulk, hundredth
 use Rattle.sea.specs.Water.{rangeOf, waterOf}
 use Rattle.floats.specs.Bytes.{floatOf}
 use Rattle.floats.specs.Grid.{inside, gridNo, placeOf}
-use Rattle.readings.specs.Check.{deepOf, placedOf, checkedOf}
+use Rattle.readings.specs.Check.{deepOf, surfaceOf, placedOf, checkedOf}
 use Rattle.readings.specs.declared.Report.{Report}
 use Rattle.readings.specs.declared.Reading.{Reading}
+use Rattle.readings.specs.declared.Point.{Point}
 use Rattle.readings.specs.declared.Entry.{Entry}
 use Rattle.channels.specs.declared.Channel.{Channel}
 use Rattle.channels.specs.declared.Needle.{Needle}
 use Rattle.panel.specs.Panel.{wateredOf, channelOf, needleOf}
 use Rattle.panel.proofs.Needles.{swapped}
+use Rattle.panel.proofs.Samples.{deep-needle-is, turned-needle-is}
 use Rattle.promises.specs.Formula.{surfaceF, saltedF, BF, bulkF, pressureF, compressedF, densityAt}
 use Rattle.pledges.specs.Pledges.{Shows}
-use Rattle.sent.specs.Sent.{vOf, uOf, qOf, formulaUnder, inCommon, Compares, ShownWithinBy, RightHeavierFrom, LeftHeavierFrom}
+use Rattle.pledges.proofs.Real.{f0, f5, f35, f1000, shows-fresh, shows-deep}
+use Rattle.sent.specs.Sent.{vOf, uOf, qOf, sentUnder, commonSent, Compares, SentWithinBy, SentToRightFrom, SentToLeftFrom}
 use Rattle.sent.proofs.Sent.{rootSent, root-sent}
+
+abbrev deep : Reading → Report
+deep r = Report.Deep (r .salinity) (r .temperature) (r .pressure)
+
+shows : (r : Reading) (p : Point) (d k : ℕ) → channelOf (Entry.Reading (deep r)) ≡ Channel.Accepted p d k → Shows r d
+shows r p d k e = record { report = deep r; reading-is = refl; point = p; bulk = k; channel-is = sym e }
+
+-- fresh water at the surface beside salt water at 1,000 bar, and the other way round: needles of 3 or more
+pub compares-depths : Compares (surfaceOf f0 f5) (deepOf f35 f5 f1000) (pos 25_361)
+unfolding shows-fresh shows-deep
+compares-depths = record { left-density = 999_967; right-density = 1_069_489; left = shows-fresh; right = shows-deep; needle-is = sym deep-needle-is }
+
+pub compares-turned : Compares (deepOf f35 f5 f1000) (surfaceOf f0 f5) (neg 25_361)
+unfolding shows-fresh shows-deep
+compares-turned = record { left-density = 1_069_489; right-density = 999_967; left = shows-deep; right = shows-fresh; needle-is = sym turned-needle-is }
 
 -- salinity 41.5695 at 39.9095 °C and 0.4 bar; salinity 41.5465 at 39.8685 °C and 5 bar
 abbrev warm : Reading
@@ -38,65 +57,51 @@ pub warm-sent :
 unfolding ofBits
 warm-sent = (refl, (refl, refl))
 
-pub warm-is : channelOf (Entry.Reading (Report.Deep (warm .salinity) (warm .temperature) (warm .pressure))) ≡ Channel.Accepted (record { sigma = pos 41_569; tau = pos 39_910; pi = pos 40 }) 1_022_898 2_441_268
+abbrev warm-at : Point
+warm-at = record { sigma = pos 41_569; tau = pos 39_910; pi = pos 40 }
+
+abbrev cool-at : Point
+cool-at = record { sigma = pos 41_547; tau = pos 39_868; pi = pos 500 }
+
+warm-is : channelOf (Entry.Reading (deep warm)) ≡ Channel.Accepted warm-at 1_022_898 2_441_268
 unfolding ofBits channelOf checkedOf placedOf placeOf inside gridNo wateredOf waterOf rangeOf scaled rowValue rootFrom rootOf Dw Ds Dr Dss Kw Ks Kr Aw As Ar Bw Bs rowsAt rootAt surface K0 A B bulk hundredths mass net gain density shown bulkOf shownOf shownAt modulusAt
 warm-is = refl
 
-pub cool-is : channelOf (Entry.Reading (Report.Deep (cool .salinity) (cool .temperature) (cool .pressure))) ≡ Channel.Accepted (record { sigma = pos 41_547; tau = pos 39_868; pi = pos 500 }) 1_023_092 2_442_739
+cool-is : channelOf (Entry.Reading (deep cool)) ≡ Channel.Accepted cool-at 1_023_092 2_442_739
 unfolding ofBits channelOf checkedOf placedOf placeOf inside gridNo wateredOf waterOf rangeOf scaled rowValue rootFrom rootOf Dw Ds Dr Dss Kw Ks Kr Aw As Ar Bw Bs rowsAt rootAt surface K0 A B bulk hundredths mass net gain density shown bulkOf shownOf shownAt modulusAt
 cool-is = refl
 
+-- the needle between them, 1,023,092 − 1,023,090
+two : needleOf (channelOf (Entry.Reading (deep warm))) (channelOf (Entry.Reading (deep cool))) ≡ Needle.Value (pos 2)
+unfolding scaled rowValue rootFrom rootOf Dw Ds Dr Dss Kw Ks Kr Aw As Ar Bw Bs rowsAt rootAt surface K0 A B bulk mass net gain density shown bulkOf shownOf shownAt
+two = ap₂ needleOf warm-is cool-is
+
 pub shows-warm : Shows warm 1_022_898
-shows-warm =
-    record {
-      report = Report.Deep (warm .salinity) (warm .temperature) (warm .pressure);
-      reading-is = refl;
-      point = record { sigma = pos 41_569; tau = pos 39_910; pi = pos 40 };
-      bulk = 2_441_268;
-      channel-is = sym warm-is;
-    }
+shows-warm = shows warm warm-at 1_022_898 2_441_268 warm-is
 
 pub shows-cool : Shows cool 1_023_092
-shows-cool =
-    record {
-      report = Report.Deep (cool .salinity) (cool .temperature) (cool .pressure);
-      reading-is = refl;
-      point = record { sigma = pos 41_547; tau = pos 39_868; pi = pos 500 };
-      bulk = 2_442_739;
-      channel-is = sym cool-is;
-    }
-
--- the needle between them, 1,023,092 − 1,023,090
-two : needleOf (Channel.Accepted (shows-warm .point) 1_022_898 2_441_268) (Channel.Accepted (shows-cool .point) 1_023_092 2_442_739) ≡ Needle.Value (pos 2)
-unfolding shows-warm shows-cool scaled rowValue rootFrom rootOf Dw Ds Dr Dss Kw Ks Kr Aw As Ar Bw Bs rowsAt rootAt surface K0 A B bulk mass net gain density shown bulkOf shownOf shownAt
-two = refl
+shows-cool = shows cool cool-at 1_023_092 2_442_739 cool-is
 
 pub compares-right : Compares warm cool (pos 2)
-unfolding shows-warm shows-cool
-compares-right =
-    record { left-density = 1_022_898; right-density = 1_023_092; left = shows-warm; right = shows-cool; needle-is = sym (ap₂ needleOf warm-is cool-is ∙ two) }
+unfolding shows shows-warm shows-cool
+compares-right = record { left-density = 1_022_898; right-density = 1_023_092; left = shows-warm; right = shows-cool; needle-is = sym two }
 
 pub compares-left : Compares cool warm (neg 2)
-unfolding shows-warm shows-cool
+unfolding shows shows-warm shows-cool
 compares-left =
-    record {
-      left-density = 1_023_092;
-      right-density = 1_022_898;
-      left = shows-cool;
-      right = shows-warm;
-      needle-is = sym (swapped (channelOf (Entry.Reading (shows-warm .report))) (channelOf (Entry.Reading (shows-cool .report))) (pos 2) (ap₂ needleOf warm-is cool-is ∙ two));
-    }
+    let turned = swapped (channelOf (Entry.Reading (deep warm))) (channelOf (Entry.Reading (deep cool))) (pos 2) two in
+    record { left-density = 1_023_092; right-density = 1_022_898; left = shows-cool; right = shows-warm; needle-is = sym turned }
 
 -- the formula makes the cool water, which the needle names, the lighter of the two, at the 5 bar that both have in common
-lighter : formulaUnder (inCommon warm cool) cool (rootSent cool) ≤F formulaUnder (inCommon warm cool) warm (rootSent warm)
+lighter : sentUnder (commonSent warm cool) cool (rootSent cool) ≤F sentUnder (commonSent warm cool) warm (rootSent warm)
 unfolding ofBits rootFrom rootOf Dw Ds Dr Dss Kw Ks Kr Aw As Ar Bw Bs units rowF _≤F_ _⊕_ _⊖_ _⊗_ _⊘_ surfaceF saltedF BF bulkF pressureF compressedF densityAt
 lighter = leZ-yes tt
 
 -- ---- 3 is the best there is, either way
-pub needle-best : ¬ (RightHeavierFrom 2)
+pub needle-best : ¬ (SentToRightFrom 2)
 needle-best h = h warm cool (pos 2) (rootSent warm) (rootSent cool) compares-right (root-sent shows-warm) (root-sent shows-cool) (leZ-yes tt) lighter
 
-pub needle-best-left : ¬ (LeftHeavierFrom 2)
+pub needle-best-left : ¬ (SentToLeftFrom 2)
 unfolding ofBits
 needle-best-left h = h cool warm (neg 2) (rootSent cool) (rootSent warm) compares-left (root-sent shows-cool) (root-sent shows-warm) (leZ-yes tt) lighter
 
@@ -104,20 +109,13 @@ needle-best-left h = h cool warm (neg 2) (rootSent cool) (rootSent warm) compare
 abbrev far : Reading
 far = deepOf (floatOf 0x7B 0xD4 0x27 0x42) (floatOf 0x81 0xD5 0x1F 0x42) (floatOf 0xEC 0x51 0x18 0x3F)
 
-pub far-is : channelOf (Entry.Reading (Report.Deep (far .salinity) (far .temperature) (far .pressure))) ≡ Channel.Accepted (record { sigma = pos 41_958; tau = pos 39_958; pi = pos 60 }) 1_023_176 2_443_048
+far-is : channelOf (Entry.Reading (deep far)) ≡ Channel.Accepted (record { sigma = pos 41_958; tau = pos 39_958; pi = pos 60 }) 1_023_176 2_443_048
 unfolding ofBits channelOf checkedOf placedOf placeOf inside gridNo wateredOf waterOf rangeOf scaled rowValue rootFrom rootOf Dw Ds Dr Dss Kw Ks Kr Aw As Ar Bw Bs rowsAt rootAt surface K0 A B bulk hundredths mass net gain density shown bulkOf shownOf shownAt modulusAt
 far-is = refl
 
 pub shows-far : Shows far 1_023_176
-shows-far =
-    record {
-      report = Report.Deep (far .salinity) (far .temperature) (far .pressure);
-      reading-is = refl;
-      point = record { sigma = pos 41_958; tau = pos 39_958; pi = pos 60 };
-      bulk = 2_443_048;
-      channel-is = sym far-is;
-    }
+shows-far = shows far (record { sigma = pos 41_958; tau = pos 39_958; pi = pos 60 }) 1_023_176 2_443_048 far-is
 
-pub shown-best : ¬ (ShownWithinBy 13)
+pub shown-best : ¬ (SentWithinBy 13)
 unfolding ofBits rootFrom rootOf Dw Ds Dr Dss Kw Ks Kr Aw As Ar Bw Bs units rowF _≤F_ _⊕_ _⊖_ _⊗_ _⊘_ surfaceF saltedF BF bulkF pressureF compressedF densityAt
 shown-best h = h far 1_023_176 (rootSent far) shows-far (root-sent shows-far) .lower .le

@@ -7,7 +7,7 @@ use native.Mathlib.Omega.{arith}
 use native.Mathlib.Nat.{mul-le-mul-right, mul-pos}
 use lib.Dec.{T, ltb→lt, le→leb}
 use lib.IntN.{ℤ, pos, negsuc, _-ℤ_, _*ℤ_}
-use lib.Signed.{leZ, ltZ, _≤ℤ_, leZ-yes, ltZ-no}
+use lib.Signed.{leZ, ltZ, _≤ℤ_, leZ-yes, ltZ-no, ≤ℤ-refl}
 use lib.Ieee.{Float}
 use lib.Ieee.Fits.{and-l, and-r}
 use Rattle.whole.specs.Arith.{plus, minus, rootOf}
@@ -34,7 +34,7 @@ use Rattle.pledges.proofs.Pledges as pledge
 use Rattle.drift.specs.Drift.{HalfStep, RootOf, Beside}
 use Rattle.drift.proofs.Root.{root-there}
 use Rattle.drift.proofs.Shown.{beside-shown}
-use Rattle.sent.specs.Sent.{valueBy, vOf, uOf, qOf, formulaUnder, formulaSent, greater, inCommon, Compares, ShownWithin, RightHeavier, LeftHeavier, NeedleWithin}
+use Rattle.sent.specs.Sent.{valueBy, vOf, uOf, qOf, sentUnder, sentAt, greater, commonSent, Compares, SentWithin, SentToRight, SentToLeft, SentNear}
 
 -- ---- half a step, on a grid of k steps to 1, of which 100,000 make c
 rounds : (k c : ℕ) (x : Float) → c * k ≡ 100_000 → 0 < c → HalfStep (grid (gridNo k x)) (valueBy c x)
@@ -72,6 +72,17 @@ greater-is a b = go (ltZ (across a b) (across b a)) (below (across a b) (across 
     go true h g = second (h tt)
     go false h g = first (g tt)
 
+-- the pressure that two readings have in common is no less than either's
+pub common-least : (l r : Reading) → (qOf l ≤F commonSent l r) × (qOf r ≤F commonSent l r)
+common-least l r = go (greater (l .pressure) (r .pressure)) (greater-is (l .pressure) (r .pressure))
+  where
+    by : (a b : Float) → AtMost a b → valueBy 1_000 a ≤F valueBy 1_000 b
+    by a b h = to-≤F (valueBy 1_000 a) (valueBy 1_000 b) (omega (arith, of-≤ℤ _ _ h, times-is (numer a) (denom b), times-is (numer b) (denom a)))
+
+    go : (f : Float) → Greater (l .pressure) (r .pressure) f → (qOf l ≤F valueBy 1_000 f) × (qOf r ≤F valueBy 1_000 f)
+    go f (first h) = (by (l .pressure) (l .pressure) (≤ℤ-refl _), by (r .pressure) (l .pressure) h)
+    go f (second h) = (by (l .pressure) (r .pressure) h, by (r .pressure) (r .pressure) (≤ℤ-refl _))
+
 -- ---- a reading that the panel shows a density for
 module _ {r : Reading} {d : ℕ} (s : Shows r d) where
   abbrev p : Point
@@ -87,7 +98,7 @@ module _ {r : Reading} {d : ℕ} (s : Shows r d) where
   π-is = sym (pledge.gridded r d s .pi-is) ∙ natural (table .pressure) .is
 
   -- under the pressure of any float that has a grid number of the table
-  beside : (f : Float) (π : ℕ) (x : Frac) → gridNo 100 f ≡ pos π → π ≤ 100_000 → RootOf (vOf r) x → Beside (plus (p .sigma)) (p .tau) π (vOf r) x (uOf r) (valueBy 1_000 f)
+  pub beside : (f : Float) (π : ℕ) (x : Frac) → gridNo 100 f ≡ pos π → π ≤ 100_000 → RootOf (vOf r) x → Beside (plus (p .sigma)) (p .tau) π (vOf r) x (uOf r) (valueBy 1_000 f)
   beside f π x e h v =
       let g = pledge.on-grid (Entry.Reading (s .report)) p d (s .bulk) (s .channel-is) in
       record {
@@ -98,13 +109,17 @@ module _ {r : Reading} {d : ℕ} (s : Shows r d) where
         root = v;
       }
 
-  near-under : (f : Float) (π : ℕ) (x : Frac) → gridNo 100 f ≡ pos π → π ≤ 100_000 → RootOf (vOf r) x → Near 10_000 (formulaUnder (valueBy 1_000 f) r x) (pos (10 * shownUnder π p)) 14 14
+  near-under : (f : Float) (π : ℕ) (x : Frac) → gridNo 100 f ≡ pos π → π ≤ 100_000 → RootOf (vOf r) x → Near 10_000 (sentUnder (valueBy 1_000 f) r x) (pos (10 * shownUnder π p)) 14 14
   near-under f π x e h v = beside-shown (plus (p .sigma)) (p .tau) π (vOf r) x (uOf r) (valueBy 1_000 f) (beside f π x e h v)
 
-pub shown-within : ShownWithin
+pub shown-within : SentWithin
 shown-within r d x s v =
     let n = near-under s (r .pressure) (plus (s .point .pi)) x (π-is s) (natural (table s .pressure) .most) v in
     rw (pledge.shows (Entry.Reading (s .report)) (s .point) d (s .bulk) (s .channel-is) .density-is) (to-within (omega arith) (omega arith) (omega arith) n)
+
+-- the formula's density there is a fraction: its lower number is above 0, and so K is above P
+pub sent-fraction : (r : Reading) (d : ℕ) (x : Frac) → Shows r d → RootOf (vOf r) x → 0 < sentAt r x .den
+sent-fraction r d x s v = near-under s (r .pressure) (plus (s .point .pi)) x (π-is s) (natural (table s .pressure) .most) v .above
 
 -- ---- two of them, under the greater of the pressures sent
 module _ (l r : Reading) (z : ℤ) (c : Compares l r z) where
@@ -128,27 +143,30 @@ module _ (l r : Reading) (z : ℤ) (c : Compares l r z) where
   needle-is : z ≡ pos (shownUnder π (c .right .point)) -ℤ pos (shownUnder π (c .left .point))
   needle-is = taken (c .needle-is ∙ ap₂ needleOf (sym (c .left .channel-is)) (sym (c .right .channel-is)))
 
-  left-near : (x : Frac) → RootOf (vOf l) x → Near 10_000 (formulaUnder (inCommon l r) l x) (pos (10 * shownUnder π (c .left .point))) 14 14
+  left-near : (x : Frac) → RootOf (vOf l) x → Near 10_000 (sentUnder (commonSent l r) l x) (pos (10 * shownUnder π (c .left .point))) 14 14
   left-near x v = near-under (c .left) (greater (l .pressure) (r .pressure)) π x common-is π-small v
 
-  right-near : (y : Frac) → RootOf (vOf r) y → Near 10_000 (formulaUnder (inCommon l r) r y) (pos (10 * shownUnder π (c .right .point))) 14 14
+  right-near : (y : Frac) → RootOf (vOf r) y → Near 10_000 (sentUnder (commonSent l r) r y) (pos (10 * shownUnder π (c .right .point))) 14 14
   right-near y v = near-under (c .right) (greater (l .pressure) (r .pressure)) π y common-is π-small v
 
-pub right-heavier : RightHeavier
+pub common-fractions : (l r : Reading) (z : ℤ) (x y : Frac) → Compares l r z → RootOf (vOf l) x → RootOf (vOf r) y → (0 < sentUnder (commonSent l r) l x .den) × (0 < sentUnder (commonSent l r) r y .den)
+common-fractions l r z x y c v w = (left-near l r z c x v .above, right-near l r z c y w .above)
+
+pub right-heavier : SentToRight
 right-heavier l r z x y c v w three =
     let a = shownUnder (π l r z c) (c .left .point) in
     let b = shownUnder (π l r z c) (c .right .point) in
     let k = rw (needle-is l r z c) at three in
     heavier a b 14 (left-near l r z c x v) (right-near l r z c y w) 3 (omega (arith, of-≤ℤ _ _ k, sub-is (pos b) (pos a))) (omega arith)
 
-pub left-heavier : LeftHeavier
+pub left-heavier : SentToLeft
 left-heavier l r z x y c v w three =
     let a = shownUnder (π l r z c) (c .left .point) in
     let b = shownUnder (π l r z c) (c .right .point) in
     let k = rw (needle-is l r z c) at three in
     heavier b a 14 (right-near l r z c y w) (left-near l r z c x v) 3 (omega (arith, of-≤ℤ _ _ k, sub-is (pos b) (pos a))) (omega arith)
 
-pub needle-within : NeedleWithin
+pub needle-within : SentNear
 needle-within l r z x y c v w =
     rw (needle-is l r z c) (difference-within (shownUnder (π l r z c) (c .left .point)) (shownUnder (π l r z c) (c .right .point)) 14 (left-near l r z c x v) (right-near l r z c y w) (omega arith))
 

@@ -33,18 +33,18 @@ abbrev pub qOf : Reading → Frac
 qOf r = valueBy 1_000 (r .pressure)
 
 -- the formula's density of a reading's water as it was sent, under a pressure and with x in place of √v; and at its own
-abbrev pub formulaUnder : Frac → Reading → Frac → Frac
-formulaUnder q r x = densityAt (vOf r) x (uOf r) q
+abbrev pub sentUnder : Frac → Reading → Frac → Frac
+sentUnder q r x = densityAt (vOf r) x (uOf r) q
 
-abbrev pub formulaSent : Reading → Frac → Frac
-formulaSent r x = formulaUnder (qOf r) r x
+abbrev pub sentAt : Reading → Frac → Frac
+sentAt r x = sentUnder (qOf r) r x
 
 -- the pressure that two readings have in common: the greater of the two as they were sent
 abbrev pub greater : Float → Float → Float
 greater a b = cond (ltZ (numer a *ℤ pos (denom b)) (numer b *ℤ pos (denom a))) b a
 
-abbrev pub inCommon : Reading → Reading → Frac
-inCommon l r = valueBy 1_000 (greater (l .pressure) (r .pressure))
+abbrev pub commonSent : Reading → Reading → Frac
+commonSent l r = valueBy 1_000 (greater (l .pressure) (r .pressure))
 
 -- the panel shows a density for each of two readings, and z is the needle between them
 pub record Compares (l r : Reading) (z : ℤ) : Type 0 where
@@ -56,32 +56,32 @@ pub record Compares (l r : Reading) (z : ℤ) : Type 0 where
 
 -- ---- the promises, for every fraction in place of each root
 -- 1. the density shown is within 0.0014 kg/m³ of the formula's. (0.0013 is false: `shown-best` of proofs/Real.)
-abbrev pub ShownWithinBy : ℕ → Type 0
-ShownWithinBy e = (r : Reading) (d : ℕ) (x : Frac) → Shows r d → RootOf (vOf r) x → Within (over e 10_000) (pos d) (formulaSent r x)
+abbrev pub SentWithinBy : ℕ → Type 0
+SentWithinBy e = (r : Reading) (d : ℕ) (x : Frac) → Shows r d → RootOf (vOf r) x → Within (over e 10_000) (pos d) (sentAt r x)
 
-abbrev pub ShownWithin : Type 0
-ShownWithin = ShownWithinBy 14
+abbrev pub SentWithin : Type 0
+SentWithin = SentWithinBy 14
 
 -- 2. a needle of 3 or more, either way, never names as heavier a water that the formula, with both under the greater of the pressures sent, makes
 -- equal or lighter. (2 is too few: `needle-best` of proofs/Real.)
-abbrev pub RightHeavierFrom : ℕ → Type 0
-RightHeavierFrom n =
+abbrev pub SentToRightFrom : ℕ → Type 0
+SentToRightFrom n =
     (l r : Reading) (z : ℤ) (x y : Frac) → Compares l r z → RootOf (vOf l) x → RootOf (vOf r) y →
-    pos n ≤ℤ z → ¬ (formulaUnder (inCommon l r) r y ≤F formulaUnder (inCommon l r) l x)
+    pos n ≤ℤ z → ¬ (sentUnder (commonSent l r) r y ≤F sentUnder (commonSent l r) l x)
 
-abbrev pub LeftHeavierFrom : ℕ → Type 0
-LeftHeavierFrom n =
+abbrev pub SentToLeftFrom : ℕ → Type 0
+SentToLeftFrom n =
     (l r : Reading) (z : ℤ) (x y : Frac) → Compares l r z → RootOf (vOf l) x → RootOf (vOf r) y →
-    z ≤ℤ neg n → ¬ (formulaUnder (inCommon l r) l x ≤F formulaUnder (inCommon l r) r y)
+    z ≤ℤ neg n → ¬ (sentUnder (commonSent l r) l x ≤F sentUnder (commonSent l r) r y)
 
-abbrev pub RightHeavier : Type 0
-RightHeavier = RightHeavierFrom 3
+abbrev pub SentToRight : Type 0
+SentToRight = SentToRightFrom 3
 
-abbrev pub LeftHeavier : Type 0
-LeftHeavier = LeftHeavierFrom 3
+abbrev pub SentToLeft : Type 0
+SentToLeft = SentToLeftFrom 3
 
 -- 3. the needle is within 0.0028 kg/m³ of the formula's difference there
-abbrev pub NeedleWithin : Type 0
-NeedleWithin =
+abbrev pub SentNear : Type 0
+SentNear =
     (l r : Reading) (z : ℤ) (x y : Frac) → Compares l r z → RootOf (vOf l) x → RootOf (vOf r) y →
-    Within (over 28 10_000) z (formulaUnder (inCommon l r) r y ⊖ formulaUnder (inCommon l r) l x)
+    Within (over 28 10_000) z (sentUnder (commonSent l r) r y ⊖ sentUnder (commonSent l r) l x)
