@@ -163,7 +163,7 @@ class Channel(NamedTuple):
     """One water. Every number is 0 if it is refused.
 
     sigma, tau, pi  the reading as it was put on the grid: salinity in 0.001, temperature in 0.001 degrees C, pressure in 0.01 bar
-    density         in 0.001 kg/m3
+    density         in 0.001 kg/m3; within 0.0014 kg/m3 of the published formula at the floats as sent, 0.0006 on the grid
     bulk            secant bulk modulus in 0.01 bar, rounded down
     """
 
@@ -180,7 +180,8 @@ class Needle(NamedTuple):
 
     left, right  their densities in 0.001 kg/m3, each at its own pressure; 0 for one that is refused
     value        right minus left in 0.001 kg/m3, both waters at the greater of the two pressures, plus where the right is heavier; 0 if refused.
-                 0, 1 and -1 say: these two are alike. Where the pressures differ, it need not be the difference of `left` and `right`
+                 3 or more, either way, names the heavier of the two waters as they were sent (2 does so on the grid); below that take them for
+                 alike. Where the pressures differ, it need not be the difference of `left` and `right`
     """
 
     refusal: Refusal
