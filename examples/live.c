@@ -13,7 +13,7 @@ int main(void) {
             left = right = WARPSORREL_CUT; /* not the eight numbers: no reading */
         uint32_t refused = warpsorrel_needle(left, ls, lt, lp, right, rs, rt, rp, out);
         if (refused) printf("no needle: R%" PRIu32 "\n", refused); /* before all else: a refused needle is 0 too */
-        else if (imaxabs(out[2]) < 2) puts("alike");
+        else if (imaxabs(out[2]) < 3) puts("alike");
         else printf("the %s is heavier by %.3f kg/m3\n", out[2] > 0 ? "right" : "left", imaxabs(out[2]) / 1000.0);
         if (fflush(stdout)) return 1; /* the answer goes out now, not when a buffer is full */
     }
