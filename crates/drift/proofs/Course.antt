@@ -4,10 +4,10 @@ use Prim.Native.Nat.{ℕ, _+_, _*_, _<_}
 use mathlib.Core.Path.{_≡_, sym, ap}
 use mathlib.Core.List.{List}
 use native.Mathlib.Omega.{arith}
-use native.Mathlib.Nat.{add-mul, mul-pos}
+use native.Mathlib.Nat.{mul-pos}
 use lib.IntN.{ℤ, pos, _*ℤ_}
 use Rattle.whole.specs.Arith.{plus, minus}
-use Rattle.whole.specs.Fraction.{Frac, over, _⊕_, _⊖_, _⊗_, _⊘_}
+use Rattle.whole.specs.Fraction.{Frac, _⊕_, _⊖_, _⊗_, _⊘_}
 use Rattle.whole.proofs.Ints.{mul-plus, mul-minus, no-minus}
 use Rattle.whole.proofs.Interval.{only}
 use Rattle.whole.proofs.Near.{Near, times-is, sum-is, difference-is}

@@ -1,10 +1,10 @@
 -- The range cut into cells, each of them tested: 11 of temperature, 5 of salinity, 3 of pressure. Assumes nothing.
-use Prim.Native.Nat.{ℕ, _+_, _*_, _-_, _/_, max, _≤_, _<_}
+use Prim.Native.Nat.{ℕ, _+_, _*_, _-_, _/_, max, _≤_}
 use mathlib.Core.Bool.{Bool, cond, false}
 use mathlib.Core.List.{List, [], _∷_}
 use native.Mathlib.Omega.{arith}
 use native.Mathlib.Decide.{decLe}
-use lib.Dec.{T, leb, leb→le}
+use lib.Dec.{T, leb}
 use lib.IntN.{pos, _-ℤ_}
 use Rattle.whole.specs.Arith.{rootFrom, rootOf}
 use Rattle.whole.specs.Order.{Box}
@@ -14,7 +14,6 @@ use Rattle.sea.specs.Recipe.{rootAt}
 use Rattle.drift.proofs.Boxes.{flip, times, _⊠_}
 use Rattle.drift.proofs.Slopes.{_⊹_, _⊹-_, _⊛_, still, moving, along, within, inverted, steepest}
 use Rattle.drift.proofs.Course.{surfaceC, saltedC, bulkC, pressureC, gainedC}
-use Rattle.drift.proofs.Root.{Far}
 use Rattle.drift.proofs.Cell.{leg, legOf, held}
 
 -- a step around the grid numbers from l − o to h − o, in 10⁻⁹

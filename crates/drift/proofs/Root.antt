@@ -3,7 +3,7 @@ use Prim.Native.Nat.{ℕ, _+_, _*_, _-_, _/_, max, _≤_, _<_}
 use mathlib.Core.Path.{_≡_, refl, ap}
 use native.Mathlib.Omega.{arith}
 use native.Mathlib.Decide.{decLe}
-use native.Mathlib.Nat.{mul-le-mul, mul-le-mul-right, mul-le-mul-left, mul-pos, le-of-mul-le-mul-right, div-mul-le-self, lt-div-mul-add}
+use native.Mathlib.Nat.{mul-le-mul, mul-le-mul-right, mul-le-mul-left, le-of-mul-le-mul-right, div-mul-le-self, lt-div-mul-add}
 use lib.IntN.{ℤ, pos, negsuc}
 use Rattle.whole.specs.Arith.{plus, minus, rootOf}
 use Rattle.whole.specs.Fraction.{Frac, over, _≤F_, _⊗_}
@@ -67,23 +67,13 @@ module _ {v x : Frac} (σ wl far : ℕ) (r : Root (rootAt σ) (σ * 100_000)) (l
   abbrev w : ℕ
   w = rootAt σ
 
-  n-low : n * n * v .den + 100_000_000_000_000 * minus (v .num) ≤ 100_000_000_000_000 * plus (v .num)
-  n-low = unfold _⊗_ in omega (arith, of-≤F (over n 10_000_000 ⊗ over n 10_000_000) v (s .below))
-
-  n-high : 100_000_000_000_000 * plus (v .num) ≤ (n + 1) * (n + 1) * v .den + 100_000_000_000_000 * minus (v .num)
-  n-high = unfold _⊗_ in omega (arith, of-≤F v (over (n + 1) 10_000_000 ⊗ over (n + 1) 10_000_000) (s .above))
-
   square-high : n * n ≤ 1_000_000_000 * σ + 500_000_000
-  square-high = le-of-mul-le-mul-right {k = v .den} (omega (arith, n-low, near .high)) (near .above)
+  unfolding _⊗_
+  square-high = le-of-mul-le-mul-right {k = v .den} (omega (arith, of-≤F (over n 10_000_000 ⊗ over n 10_000_000) v (s .below), near .high)) (near .above)
 
   square-low : 1_000_000_000 * σ ≤ (n + 1) * (n + 1) + 500_000_000
-  square-low = le-of-mul-le-mul-right {k = v .den} (omega (arith, n-high, near .low)) (near .above)
-
-  x-low : n * x .den + 10_000_000 * minus (x .num) ≤ 10_000_000 * plus (x .num)
-  x-low = omega (arith, of-≤F (over n 10_000_000) x (s .low))
-
-  x-high : 10_000_000 * plus (x .num) ≤ (n + 1) * x .den + 10_000_000 * minus (x .num)
-  x-high = omega (arith, of-≤F x (over (n + 1) 10_000_000) (s .high))
+  unfolding _⊗_
+  square-low = le-of-mul-le-mul-right {k = v .den} (omega (arith, of-≤F v (over (n + 1) 10_000_000 ⊗ over (n + 1) 10_000_000) (s .above), near .low)) (near .above)
 
   -- an end m of what the grid's root leaves open, where x is no further from it
   end : (m : ℕ) → Rooted σ (over m 100_000) → 10_000_000 * plus (x .num) ≤ (100 * m + far) * x .den + 10_000_000 * minus (x .num) →
@@ -99,10 +89,10 @@ module _ {v x : Frac} (σ wl far : ℕ) (r : Root (rootAt σ) (σ * 100_000)) (l
           record { on-grid = x; rooted = rooted; apart = record { up = omega arith; down = omega arith } }
       go (yes a) (no b) =
           let f = up-far w wl n far least enough (omega (arith, square-high, r .high)) in
-          end (w + 1) (grid.rooted-every σ (over (w + 1) 100_000) (omega arith) (to-≤F _ _ (omega arith)) (to-≤F _ _ (omega arith))) (omega (arith, x-high, mul-le-mul-right (x .den) f)) (omega arith)
+          end (w + 1) (grid.rooted-every σ (over (w + 1) 100_000) (omega arith) (to-≤F _ _ (omega arith)) (to-≤F _ _ (omega arith))) (omega (arith, of-≤F x (over (n + 1) 10_000_000) (s .high), mul-le-mul-right (x .den) f)) (omega arith)
       go (no a) b =
           let f = down-far w wl n far least enough (omega (arith, square-low, r .low)) in
-          end w (grid.rooted σ) (omega arith) (omega (arith, x-low, mul-le-mul-right (x .den) f))
+          end w (grid.rooted σ) (omega arith) (omega (arith, of-≤F (over n 10_000_000) x (s .low), mul-le-mul-right (x .den) f))
 
 -- ---- every fraction from 0 on has one to put in place of its root
 pub root-there : (v : Frac) → 0 < v .den → over 0 1 ≤F v → v ≤F over 1 1 → RootOf v (over (rootOf (100_000_000_000_000 * plus (v .num) / v .den)) 10_000_000)
@@ -126,3 +116,8 @@ root-there v v0 low high =
       low = to-≤F _ _ (omega arith);
       high = to-≤F _ _ (omega arith);
     }
+
+-- and every fraction between the two ends is one
+pub root-every : (v x : Frac) (w : ℕ) → over w 10_000_000 ⊗ over w 10_000_000 ≤F v → v ≤F over (w + 1) 10_000_000 ⊗ over (w + 1) 10_000_000 → 0 < x .den →
+    over w 10_000_000 ≤F x → x ≤F over (w + 1) 10_000_000 → RootOf v x
+root-every v x w b a f l h = record { w = w; below = b; above = a; fraction = f; low = l; high = h }

@@ -13,7 +13,7 @@ use Rattle.whole.proofs.Ints.{sub-is}
 use Rattle.whole.proofs.Interval.{both}
 use Rattle.whole.proofs.Near.{Near, sum-is, of-≤F}
 use Rattle.whole.proofs.Roots.{root-below}
-use Rattle.sea.specs.Recipe.{rowsAt, rootAt, surface, bulkOf, density, shown, shownOf, shownAt}
+use Rattle.sea.specs.Recipe.{rowsAt, rootAt, surface, bulkOf, density, shownOf, shownAt}
 use Rattle.promises.specs.Formula.{grid, densityAt, densityF}
 use Rattle.promises.proofs.Grid as grid
 use Rattle.promises.proofs.Close.{near-shown}

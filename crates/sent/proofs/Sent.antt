@@ -1,7 +1,7 @@
 -- A float's grid number is at most half a step from its exact value, and the greater of two floats has the greater of their grid numbers: so a reading
 -- that the panel accepts stands beside its point, at its own pressure and under one in common. Assumes nothing.
-use Prim.Native.Nat.{ℕ, _+_, _*_, _/_, _≤_, _<_}
-use mathlib.Core.Path.{_≡_, refl, sym, ap, ap₂, subst, _∙_}
+use Prim.Native.Nat.{ℕ, _*_, _/_, _≤_, _<_}
+use mathlib.Core.Path.{_≡_, sym, ap, ap₂, subst, _∙_}
 use mathlib.Core.Bool.{Bool, true, false, not, cond, _&&_}
 use native.Mathlib.Omega.{arith}
 use native.Mathlib.Nat.{mul-le-mul-right, mul-pos}
@@ -12,7 +12,7 @@ use lib.Ieee.{Float}
 use lib.Ieee.Fits.{and-l, and-r}
 use Rattle.whole.specs.Arith.{plus, minus, rootOf}
 use Rattle.whole.specs.Fraction.{Frac, over, units, _≤F_, _⊕_}
-use Rattle.whole.proofs.Ints.{pos-plus, of-≤ℤ, below-minus, above-plus, sub-is}
+use Rattle.whole.proofs.Ints.{of-≤ℤ, above-plus, sub-is}
 use Rattle.whole.proofs.Near.{Near, times-is, sum-is, to-≤F}
 use Rattle.sea.specs.Sizes.{OnTable}
 use Rattle.sea.proofs.Grid.{natural}
@@ -27,7 +27,6 @@ use Rattle.panel.proofs.Answers.{accepted-inside}
 use Rattle.panel.proofs.Needles.{taken}
 use Rattle.panel.proofs.Sizes.{accepted-table}
 use Rattle.promises.specs.Formula.{grid}
-use Rattle.promises.specs.Promises.{OnGrid}
 use Rattle.promises.proofs.Needle.{to-within, difference-within, heavier}
 use Rattle.pledges.specs.Pledges.{Shows}
 use Rattle.pledges.proofs.Pledges as pledge
