@@ -116,9 +116,8 @@ static void look_at_formula(const struct oracle_report reports[2], const struct 
     if (n.refusal) return;
     double most = pressure[0] > pressure[1] ? pressure[0] : pressure[1];
     double difference = oracle_formula(&reports[1], most) - oracle_formula(&reports[0], most);
+    if ((n.value >= 3 && !(difference > 0)) || (n.value <= -3 && !(difference < 0))) fail("the needle and the formula's order as sent");
     if (!(fabs((double)n.value / 1000 - difference) <= 0.0028 + ALLOWANCE)) fail("the needle and the formula's difference as sent");
-    if ((n.value >= 3 && !(difference > -ALLOWANCE)) || (n.value <= -3 && !(difference < ALLOWANCE)))
-        fail("the needle and the formula's order as sent");
 }
 
 /* The line is written in a room of WARPSORREL_LINE and in one of lent bytes. */

@@ -3,9 +3,10 @@
 
     python3 tests/cited.py
 
-Every file and every name that the page cites exists; every must-fail edit is cited, and says in its first line what it does; every public
-function has its law in its crate's proofs/One, over its contract, and stands on the page; each but the inner ones has the law that it asks
-nothing of its caller.
+Every file and every name that the page cites exists, comments aside; a law that stands in a column whose head names a file is a public law
+of that file; every must-fail edit is cited, and says in its first line what it does; every public function has its law in its crate's
+proofs/One, over its contract, and stands on the page; each but the inner ones has the law that it asks nothing of its caller. The numbers
+that README promises in its table are those of the theorems.
 """
 import re
 import sys
@@ -16,6 +17,7 @@ CRATES = ROOT / "crates"
 PAGE = (ROOT / "docs/PROMISES.md").read_text(encoding="utf-8")
 LIBRARIES = sorted(p.parent.parent.name for p in CRATES.glob("*/src/lib.rt"))
 TEXTS = {p: p.read_text(encoding="utf-8") for kind in ("antt", "rt") for p in CRATES.rglob("*." + kind)}
+LAWS = {p: re.sub(r"(?m)(?:--|//) .*$", "", text) for p, text in TEXTS.items()}  # without comments
 
 INNER = {("whole", "*"), ("floats", "grid.place"), ("cells", "*"), ("texts", "put_line")}  # they ask for sizes or room, and their callers see to it
 
@@ -47,11 +49,47 @@ def files_and_names():
     for path in set(re.findall(r"`(tests/[^`]+)`", PAGE)):
         hold((ROOT / path).exists(), f"no such file: {path}")
     labels = {label for _, label in EDITS}
-    known = "\n".join(TEXTS.values())
+    known = "\n".join(LAWS.values())
     words = {w for w in re.findall(r"`([^`\s]+)`", PAGE) if re.fullmatch(r"[A-Za-z][\w√′-]*", w)}
     for word in sorted(words - labels):
         hold(re.search(r"(?<![\w-])%s(?![\w-])" % re.escape(word), known), f"no such name: {word}")
     return len(words - labels)
+
+
+def columns():
+    """The laws below a head that names a file: each is public there."""
+    heads, count = [], 0
+    for line in PAGE.splitlines():
+        cells = line.split("|")[1:-1]
+        if not cells:
+            heads = []
+        elif not heads:
+            heads = [re.search(r"\(`(\w+/proofs/\w+)`\)", cell) for cell in cells]
+            continue
+        for head, cell in zip(heads, cells):
+            for law in re.findall(r"`([a-z]+(?:-[a-z]+)*)`", cell) if head else []:
+                count += 1
+                hold(re.search(r"(?m)^\s*pub %s :" % re.escape(law), LAWS[CRATES / (head[1] + ".antt")]), f"no public law {law} in {head[1]}")
+    return count
+
+
+def numbers():
+    """README's table of how far to trust it: on the grid by `promises`, as sent by `sent`, of the definitions and of what the calls tell."""
+    table = re.search(r"(?ms)^## How far may I trust it\?$.*?^\|---.*?\n(.*?)\n\n", (ROOT / "README.md").read_text(encoding="utf-8"))[1]
+    rows = [re.findall(r"[\d.]+(?= kg/m³)|\d+(?= \(|\*\*)", line.replace("**", "")) for line in table.splitlines()]
+    within, needle, near = ([round(float(x) * 10_000) for x in rows[0]], [int(rows[1][0]), int(rows[1][2])], [round(float(x) * 10_000) for x in rows[2]])
+    for column, (said, told) in enumerate((("promises/specs/Promises", "pledges/proofs/Calls"), ("sent/specs/Sent", "sent/proofs/Calls"))):
+        e, n, d = within[column], needle[column], near[column]
+        for path in (said, told):
+            text = LAWS[CRATES / (path + ".antt")]
+            wanted = [rf"over {d} 10_000\)"]
+            if path == "sent/specs/Sent":
+                wanted += [rf"SentWithin = SentWithinBy {e}$", rf"SentToRight = SentToRightFrom {n}$", rf"SentToLeft = SentToLeftFrom {n}$"]
+            else:
+                wanted += [rf"pos {n} ≤ℤ", rf"≤ℤ neg {n}\b", "Close d " if path == "pledges/proofs/Calls" else rf"over {e} 10_000\)"]
+            for pattern in wanted:
+                hold(re.search("(?m)" + pattern, text), f"README's numbers and {path}: no {pattern}")
+    return 3
 
 
 def edits():
@@ -91,7 +129,10 @@ def functions():
 
 
 EDITS = edits_cited()
-print(f"cited: {files_and_names()} names, {edits()} edits, {functions()} public functions, {len(wrong)} wrong")
+print(
+    f"cited: {files_and_names()} names, {columns()} laws in columns of their own, {numbers()} rows of numbers, {edits()} edits,"
+    f" {functions()} public functions, {len(wrong)} wrong"
+)
 for text in wrong:
     print("cited:", text)
 sys.exit(1 if wrong else 0)

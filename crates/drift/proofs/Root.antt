@@ -94,7 +94,7 @@ module _ {v x : Frac} (σ wl far : ℕ) (r : Root (rootAt σ) (σ * 100_000)) (l
           let f = down-far w wl n far least enough (omega (arith, square-low, r .low)) in
           end w (grid.rooted σ) (omega arith) (omega (arith, of-≤F (over n 10_000_000) x (s .low), mul-le-mul-right (x .den) f))
 
--- ---- every fraction from 0 on has one to put in place of its root
+-- ---- every fraction from 0 to 1 has one to put in place of its root
 pub root-there : (v : Frac) → 0 < v .den → over 0 1 ≤F v → v ≤F over 1 1 → RootOf v (over (rootOf (100_000_000_000_000 * plus (v .num) / v .den)) 10_000_000)
 unfolding _⊗_
 root-there v v0 low high =

@@ -63,7 +63,7 @@ pub record Stands (b : Box) (f : Frac) : Type 0 where
 abbrev pub rise : Frac → Frac → ℕ
 rise f g = plus (g .num) * f .den + minus (f .num) * g .den
 
--- from f to g, while the number that moves rises by H/M
+-- from f to g, while the number that moves rises by H/M: g − f is H/M times a number of the slope's box
 pub record Runs (M H : ℕ) (e : Course) (f g : Frac) : Type 0 where
   pub from : Stands (e .box) f
   pub to : Stands (e .box) g

@@ -24,7 +24,7 @@ use Rattle.drift.specs.Drift.{RootOf}
 use Rattle.sent.specs.Sent.{vOf, sentUnder, sentAt, commonSent, Compares}
 use Rattle.sent.proofs.Sent as sent
 
--- ---- one call of `answer` with a report of the reading x, whose answer is an accepted channel
+-- ---- one call of `answer` with a report of the reading r, whose answer is an accepted channel
 pub shown-within :
     (κs : Lifetimes.Lfts 0) (a : _) (c : _) (s : _) → answer.Learnt κs a c s →
     (p : Point) (d k : ℕ) → Channel.Accepted p d k ≡ c → (report : Report) (r : Reading) → a .0 ≡ Entry.Reading report → givenOf report ≡ some r →

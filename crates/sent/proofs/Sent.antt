@@ -111,14 +111,16 @@ module _ {r : Reading} {d : ℕ} (s : Shows r d) where
   near-under : (f : Float) (π : ℕ) (x : Frac) → gridNo 100 f ≡ pos π → π ≤ 100_000 → RootOf (vOf r) x → Near 10_000 (sentUnder (valueBy 1_000 f) r x) (pos (10 * shownUnder π p)) 14 14
   near-under f π x e h v = beside-shown (plus (p .sigma)) (p .tau) π (vOf r) x (uOf r) (valueBy 1_000 f) (beside f π x e h v)
 
+  near-own : (x : Frac) → RootOf (vOf r) x → Near 10_000 (sentAt r x) (pos (10 * shownUnder (plus (p .pi)) p)) 14 14
+  near-own x v = near-under (r .pressure) (plus (p .pi)) x π-is (natural (table .pressure) .most) v
+
 pub shown-within : SentWithin
 shown-within r d x s v =
-    let n = near-under s (r .pressure) (plus (s .point .pi)) x (π-is s) (natural (table s .pressure) .most) v in
-    rw (pledge.shows (Entry.Reading (s .report)) (s .point) d (s .bulk) (s .channel-is) .density-is) (to-within (omega arith) (omega arith) (omega arith) n)
+    rw (pledge.shows (Entry.Reading (s .report)) (s .point) d (s .bulk) (s .channel-is) .density-is) (to-within (omega arith) (omega arith) (omega arith) (near-own s x v))
 
 -- the formula's density there is a fraction: its lower number is above 0, and so K is above P
 pub sent-fraction : (r : Reading) (d : ℕ) (x : Frac) → Shows r d → RootOf (vOf r) x → 0 < sentAt r x .den
-sent-fraction r d x s v = near-under s (r .pressure) (plus (s .point .pi)) x (π-is s) (natural (table s .pressure) .most) v .above
+sent-fraction r d x s v = near-own s x v .above
 
 -- ---- two of them, under the greater of the pressures sent
 module _ (l r : Reading) (z : ℤ) (c : Compares l r z) where

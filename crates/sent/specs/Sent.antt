@@ -1,5 +1,7 @@
 -- Demand 3 of the readings as the probes sent them: what the panel's calls return, held to the published formula at the exact values of the floats.
 -- Proved in proofs/Sent, and in proofs/Calls from the contracts of `panel::answer` and `panel::paired`.
+-- The words: `numer` and `denom` are a float's exact value (floats), `densityAt` is the formula, and `Within e n f` says that n thousandths are within e
+-- of f (promises); `Shows r d`: the panel accepts the reading r and shows the density d (pledges); `RootOf v x`: x is in the bracket of √v (drift).
 use Prim.Native.Nat.{ℕ, _*_}
 use mathlib.Core.Path.{_≡_}
 use mathlib.Core.Bool.{cond}
@@ -32,7 +34,8 @@ uOf r = valueBy 100 (r .temperature)
 abbrev pub qOf : Reading → Frac
 qOf r = valueBy 1_000 (r .pressure)
 
--- the formula's density of a reading's water as it was sent, under a pressure and with x in place of √v; and at its own
+-- the formula's density of a reading's water as it was sent, under a pressure and with x in place of √v; and at its own. (A fraction for every reading
+-- that is shown, its lower number above 0, so that K is above P: `sent-fraction` and `common-fractions` of proofs/Sent.)
 abbrev pub sentUnder : Frac → Reading → Frac → Frac
 sentUnder q r x = densityAt (vOf r) x (uOf r) q
 
@@ -54,7 +57,8 @@ pub record Compares (l r : Reading) (z : ℤ) : Type 0 where
   pub right : Shows r right-density
   pub needle-is : Needle.Value z ≡ needleOf (channelOf (Entry.Reading (left .report))) (channelOf (Entry.Reading (right .report)))
 
--- ---- the promises, for every fraction in place of each root
+-- ---- the promises, for every fraction in place of each root. (Every reading that is shown has one, `root-sent` of proofs/Sent, and none of the bracket is
+-- left out, `root-every` of drift/proofs/Root.)
 -- 1. the density shown is within 0.0014 kg/m³ of the formula's. (0.0013 is false: `shown-best` of proofs/Real.)
 abbrev pub SentWithinBy : ℕ → Type 0
 SentWithinBy e = (r : Reading) (d : ℕ) (x : Frac) → Shows r d → RootOf (vOf r) x → Within (over e 10_000) (pos d) (sentAt r x)
