@@ -389,6 +389,7 @@ def readme(tries):
 
 def main():
     model.hold()
+    signal.signal(signal.SIGINT, signal.default_int_handler)  # where it is ignored, as in the background of a shell, a try to break off would be too
     tries = Tries()
     for part in (words, names, inputs, unreadable, texts, outputs, kit):
         with tempfile.TemporaryDirectory() as room:
