@@ -10,6 +10,7 @@ use Rattle.refusals.specs.declared.Unread.{Unread}
 use Rattle.refusals.specs.Number.{refusalOf}
 use Rattle.floats.specs.Grid.{inside}
 use Rattle.readings.specs.declared.Point.{Point}
+use Rattle.readings.specs.declared.Purpose.{Purpose}
 use Rattle.readings.specs.declared.Report.{Report}
 use Rattle.readings.specs.declared.Reading.{Reading}
 use Rattle.readings.specs.declared.Checked.{Checked}
@@ -45,7 +46,7 @@ on-table p g =
 by-water : (report : Report) (p : Point) → checkedOf report ≡ Checked.Taken p → (w : Water) → waterOf (p .sigma) (p .tau) (p .pi) ≡ w → Case (Entry.Reading report) (filled p w)
 by-water report p c (Water.Known d k) e = accepted report p d k c e
 by-water report p c (Water.Refused r) e =
-    absurd (unknown (sym (known-on-table (p .sigma) (p .tau) (p .pi) (on-table p (reading.taken-on-grid report p c))) ∙ e))
+    absurd (unknown (sym (known-on-table (p .sigma) (p .tau) (p .pi) (on-table p (reading.taken-on-grid Purpose.Density report p c))) ∙ e))
 
 by-check : (report : Report) (c : Checked) → checkedOf report ≡ c → Case (Entry.Reading report) (checkedChannel c)
 unfolding wateredOf
@@ -66,7 +67,7 @@ pub accepted-gridded :
 accepted-gridded report r p d k g e = go (subst (Case (Entry.Reading report)) e (case-of (Entry.Reading report)))
   where
     go : Case (Entry.Reading report) (Channel.Accepted p d k) → Gridded r p
-    go (accepted _ _ _ _ c w) = reading.taken-gridded report r p g c
+    go (accepted _ _ _ _ c w) = reading.taken-gridded Purpose.Density report r p g c
 
 -- and its salinity was inside the range
 pub accepted-inside :
@@ -77,16 +78,16 @@ pub accepted-inside :
 accepted-inside report r p d k g e = go (subst (Case (Entry.Reading report)) e (case-of (Entry.Reading report)))
   where
     go : Case (Entry.Reading report) (Channel.Accepted p d k) → T (inside salinities (r .salinity))
-    go (accepted _ _ _ _ c w) = reading.taken-inside report r p g c
+    go (accepted _ _ _ _ c w) = reading.taken-inside Purpose.Density report r p g c
 
 -- ---- a reading is refused only for a listed reason
-pub refused-only : (report : Report) (r : Refusal) → channelOf (Entry.Reading report) ≡ Channel.Refused r → Reason report r
+pub refused-only : (report : Report) (r : Refusal) → channelOf (Entry.Reading report) ≡ Channel.Refused r → Reason Purpose.Density report r
 refused-only report r e = go (subst (Case (Entry.Reading report)) e (case-of (Entry.Reading report)))
   where
-    go : Case (Entry.Reading report) (Channel.Refused r) → Reason report r
-    go (refused _ _ c) = reading.refused-only report r c
+    go : Case (Entry.Reading report) (Channel.Refused r) → Reason Purpose.Density report r
+    go (refused _ _ c) = reading.refused-only Purpose.Density report r c
 
 -- and a reason is enough
-pub reason-refuses : {report : Report} {r : Refusal} → Reason report r → channelOf (Entry.Reading report) ≡ Channel.Refused r
+pub reason-refuses : {report : Report} {r : Refusal} → Reason Purpose.Density report r → channelOf (Entry.Reading report) ≡ Channel.Refused r
 unfolding channelOf
-reason-refuses w = ap checkedChannel (reading.reason-refuses w)
+reason-refuses w = ap checkedChannel (reading.reason-refuses Purpose.Density w)

@@ -15,6 +15,7 @@ use Rattle.sea.proofs.Answers.{known-on-table, sounding-on-table}
 use Rattle.sea.proofs.Grid.{natural, lies-natural}
 use Rattle.refusals.specs.declared.Refusal.{Refusal}
 use Rattle.readings.specs.declared.Point.{Point}
+use Rattle.readings.specs.declared.Purpose.{Purpose}
 use Rattle.readings.specs.declared.Checked.{Checked}
 use Rattle.readings.specs.declared.Entry.{Entry}
 use Rattle.readings.proofs.Answers.{taken-on-grid}
@@ -36,7 +37,7 @@ by-check (Checked.Taken p) t = at p (t p refl)
 by-check (Checked.Refused r) t = nowhere r
 
 placed : (e : Entry) → Placed (entered e)
-placed (Entry.Reading report) = by-check _ (λ p e. on-table p (taken-on-grid report p e))
+placed (Entry.Reading report) = by-check _ (λ p e. on-table p (taken-on-grid Purpose.Density report p e))
 placed (Entry.Refused u) = nowhere _
 
 -- a point on the table is accepted

@@ -11,7 +11,7 @@ use Rattle.sea.specs.Water.{rangeOf, waterOf}
 use Rattle.refusals.specs.declared.Refusal.{Refusal}
 use Rattle.floats.specs.Bytes.{floatOf}
 use Rattle.floats.specs.Grid.{inside, gridNo, placeOf}
-use Rattle.readings.specs.Check.{placedOf, checkedOf}
+use Rattle.readings.specs.Check.{placedFor, checkedFor}
 use Rattle.readings.specs.declared.Report.{Report}
 use Rattle.readings.specs.declared.Entry.{Entry}
 use Rattle.channels.specs.declared.Channel.{Channel}
@@ -27,15 +27,15 @@ abbrev pub salt : Entry
 salt = Entry.Reading (Report.Surface (floatOf 0x00 0x00 0x0C 0x42) (floatOf 0x00 0x00 0xA0 0x40))
 
 pub fresh-is : channelOf fresh ≡ Channel.Accepted (record { sigma = pos 0; tau = pos 5_000; pi = pos 0 }) 999_967 2_033_780
-unfolding ofBits channelOf checkedOf placedOf placeOf inside gridNo wateredOf waterOf rangeOf scaled rowValue rootFrom rootOf Dw Ds Dr Dss Kw Ks Kr Aw As Ar Bw Bs rowsAt rootAt surface K0 A B bulk hundredths mass net gain density shown bulkOf shownOf shownAt modulusAt
+unfolding ofBits channelOf checkedFor placedFor placeOf inside gridNo wateredOf waterOf rangeOf scaled rowValue rootFrom rootOf Dw Ds Dr Dss Kw Ks Kr Aw As Ar Bw Bs rowsAt rootAt surface K0 A B bulk hundredths mass net gain density shown bulkOf shownOf shownAt modulusAt
 fresh-is = refl
 
 pub salt-is : channelOf salt ≡ Channel.Accepted (record { sigma = pos 35_000; tau = pos 5_000; pi = pos 0 }) 1_027_675 2_218_593
-unfolding ofBits channelOf checkedOf placedOf placeOf inside gridNo wateredOf waterOf rangeOf scaled rowValue rootFrom rootOf Dw Ds Dr Dss Kw Ks Kr Aw As Ar Bw Bs rowsAt rootAt surface K0 A B bulk hundredths mass net gain density shown bulkOf shownOf shownAt modulusAt
+unfolding ofBits channelOf checkedFor placedFor placeOf inside gridNo wateredOf waterOf rangeOf scaled rowValue rootFrom rootOf Dw Ds Dr Dss Kw Ks Kr Aw As Ar Bw Bs rowsAt rootAt surface K0 A B bulk hundredths mass net gain density shown bulkOf shownOf shownAt modulusAt
 salt-is = refl
 
 pub nothing-is : channelOf (Entry.Reading Report.Missing) ≡ Channel.Refused Refusal.Missing
-unfolding channelOf checkedOf
+unfolding channelOf checkedFor
 nothing-is = refl
 
 -- salinity 35 at 5 °C and 1,000 bar
@@ -43,7 +43,7 @@ abbrev pub deep : Entry
 deep = Entry.Reading (Report.Deep (floatOf 0x00 0x00 0x0C 0x42) (floatOf 0x00 0x00 0xA0 0x40) (floatOf 0x00 0x00 0x7A 0x44))
 
 pub deep-is : channelOf deep ≡ Channel.Accepted (record { sigma = pos 35_000; tau = pos 5_000; pi = pos 100_000 }) 1_069_489 2_557_749
-unfolding ofBits channelOf checkedOf placedOf placeOf inside gridNo wateredOf waterOf rangeOf scaled rowValue rootFrom rootOf Dw Ds Dr Dss Kw Ks Kr Aw As Ar Bw Bs rowsAt rootAt surface K0 A B bulk hundredths mass net gain density shown bulkOf shownOf shownAt modulusAt
+unfolding ofBits channelOf checkedFor placedFor placeOf inside gridNo wateredOf waterOf rangeOf scaled rowValue rootFrom rootOf Dw Ds Dr Dss Kw Ks Kr Aw As Ar Bw Bs rowsAt rootAt surface K0 A B bulk hundredths mass net gain density shown bulkOf shownOf shownAt modulusAt
 deep-is = refl
 
 -- ---- needles

@@ -14,6 +14,7 @@ use Rattle.refusals.specs.declared.Unread.{Unread}
 use Rattle.refusals.specs.Number.{numberOf, refusalOf}
 use Rattle.readings.specs.declared.Report.{Report}
 use Rattle.readings.specs.declared.Point.{Point}
+use Rattle.readings.specs.declared.Purpose.{Purpose}
 use Rattle.readings.proofs.Reasons.{Reason, missing, not-finite, salinity, temperature, pressure}
 use Rattle.readings.proofs.Answers as reading
 use Rattle.sea.specs.Sizes.{OnTable}
@@ -42,7 +43,7 @@ abbrev pub Small : Channel → Type 0
 Small (Channel.Accepted p d k) = d < 10_000_000
 Small (Channel.Refused r) = numberOf r < 10
 
-reason-small : {report : Report} {r : Refusal} → Reason report r → numberOf r < 10
+reason-small : {report : Report} {r : Refusal} → Reason Purpose.Density report r → numberOf r < 10
 reason-small missing = lit< tt
 reason-small (not-finite r g f) = lit< tt
 reason-small (salinity r w s) = lit< tt
@@ -56,7 +57,7 @@ unread-small Unread.Length = lit< tt
 
 by-case : {e : Entry} {c : Channel} → Case e c → Small c
 by-case (accepted report p d k c w) = let s = known-shows (p .sigma) (p .tau) (p .pi) w in omega (arith, s .density-high)
-by-case (refused report r c) = reason-small (reading.refused-only report r c)
+by-case (refused report r c) = reason-small (reading.refused-only Purpose.Density report r c)
 by-case (no-record u) = unread-small u
 
 pub shown-small : (e : Entry) → Small (channelOf e)
@@ -86,9 +87,9 @@ difference-small a b h g = go (pos b -ℤ pos a) (sub-is (pos b) (pos a))
     go (negsuc n) e = omega (arith, h .1, g .0)
 
 needle-case : {e f : Entry} {c d : Channel} → Case e c → Case f d → SmallNeedle (needleOf c d)
-needle-case (refused report r c) w = omega (arith, reason-small (reading.refused-only report r c))
+needle-case (refused report r c) w = omega (arith, reason-small (reading.refused-only Purpose.Density report r c))
 needle-case (no-record u) w = omega (arith, unread-small u)
-needle-case (accepted report p d k c w) (refused report′ r c′) = omega (arith, reason-small (reading.refused-only report′ r c′))
+needle-case (accepted report p d k c w) (refused report′ r c′) = omega (arith, reason-small (reading.refused-only Purpose.Density report′ r c′))
 needle-case (accepted report p d k c w) (no-record u) = omega (arith, unread-small u)
 needle-case (accepted report p d k c w) (accepted report′ q d′ k′ c′ w′) =
     let s = known-is-on-table (p .sigma) (p .tau) (p .pi) w in

@@ -12,8 +12,9 @@ use Rattle.refusals.specs.declared.Refusal.{Refusal}
 use Rattle.floats.specs.Grid.{Range, inside, gridNo, placeOf}
 use Rattle.floats.specs.declared.Place.{Place}
 use Rattle.floats.proofs.Order.{grid-within}
-use Rattle.readings.specs.Check.{salinities, temperatures, pressures, deepOf, surfaceOf, givenOf, allFinite, firstOutside, placedOf, inOrder, checkedOf}
-use Rattle.readings.proofs.Reasons.{OnGrid, Gridded, Usable, Reason, missing, not-finite, salinity, temperature, pressure, Answered, taken, refused}
+use Rattle.readings.specs.Check.{salinities, temperatures, pressures, deepOf, surfaceOf, givenOf, allFinite, firstOutside, placedFor, inOrder, checkedFor}
+use Rattle.readings.proofs.Reasons.{Lying, Gridded, Usable, Reason, missing, not-finite, salinity, temperature, pressure, Answered, taken, refused}
+use Rattle.readings.specs.declared.Purpose.{Purpose}
 use Rattle.readings.specs.declared.Report.{Report}
 use Rattle.readings.specs.declared.Reading.{Reading}
 use Rattle.readings.specs.declared.Point.{Point}
@@ -26,80 +27,81 @@ within q x e = grid-within q x (subst T (sym e) tt)
 abbrev placed : Bool → Range → Float → Place
 placed b q x = cond b (Place.At (gridNo (q .steps) x)) Place.Outside
 
-by-places : (report : Report) (r : Reading) → Usable report r → (a b c : Bool) → inside salinities (r .salinity) ≡ a
-    → inside temperatures (r .temperature) ≡ b → inside pressures (r .pressure) ≡ c
-    → Answered report (firstOutside (placed a salinities (r .salinity)) (placed b temperatures (r .temperature)) (placed c pressures (r .pressure)))
-by-places report r w false b c s t p = refused (salinity r w s)
-by-places report r w true false c s t p = refused (temperature r w s t)
-by-places report r w true true false s t p = refused (pressure r w s t p)
-by-places report r w true true true s t p =
-    let σ = within salinities (r .salinity) s in
-    let τ = within temperatures (r .temperature) t in
-    let π = within pressures (r .pressure) p in
-    taken r w (record { sigma-is = refl; tau-is = refl; pi-is = refl }) (record { sigma-low = σ .0; sigma-high = σ .1; tau-low = τ .0; tau-high = τ .1; pi-low = π .0; pi-high = π .1 })
+module _ (k : Purpose) where
+  by-places : (report : Report) (r : Reading) → Usable report r → (a b c : Bool) → inside salinities (r .salinity) ≡ a
+      → inside (temperatures k) (r .temperature) ≡ b → inside pressures (r .pressure) ≡ c
+      → Answered k report (firstOutside (placed a salinities (r .salinity)) (placed b (temperatures k) (r .temperature)) (placed c pressures (r .pressure)))
+  by-places report r w false b c s t p = refused (salinity r w s)
+  by-places report r w true false c s t p = refused (temperature r w s t)
+  by-places report r w true true false s t p = refused (pressure r w s t p)
+  by-places report r w true true true s t p =
+      let σ = within salinities (r .salinity) s in
+      let τ = within (temperatures k) (r .temperature) t in
+      let π = within pressures (r .pressure) p in
+      taken r w (record { sigma-is = refl; tau-is = refl; pi-is = refl }) (record { sigma-low = σ .0; sigma-high = σ .1; tau-low = τ .0; tau-high = τ .1; pi-low = π .0; pi-high = π .1 })
 
-with-reading : (report : Report) (r : Reading) → givenOf report ≡ some r → (f : Finite) → allFinite report ≡ f
-    → Answered report (inOrder (some r) f)
-unfolding placedOf placeOf
-with-reading report r g Finite.No e = refused (not-finite r g e)
-with-reading report r g Finite.Yes e =
-    by-places report r (record { given = g; finite = e }) (inside salinities (r .salinity)) (inside temperatures (r .temperature))
-    (inside pressures (r .pressure)) refl refl refl
+  with-reading : (report : Report) (r : Reading) → givenOf report ≡ some r → (f : Finite) → allFinite report ≡ f
+      → Answered k report (inOrder k (some r) f)
+  unfolding placedFor placeOf
+  with-reading report r g Finite.No e = refused (not-finite r g e)
+  with-reading report r g Finite.Yes e =
+      by-places report r (record { given = g; finite = e }) (inside salinities (r .salinity)) (inside (temperatures k) (r .temperature))
+      (inside pressures (r .pressure)) refl refl refl
 
-pub answered : (report : Report) → Answered report (checkedOf report)
-unfolding checkedOf
-answered (Report.Deep s t p) = with-reading (Report.Deep s t p) (deepOf s t p) refl (allFinite (Report.Deep s t p)) refl
-answered (Report.Surface s t) = with-reading (Report.Surface s t) (surfaceOf s t) refl (allFinite (Report.Surface s t)) refl
-answered Report.Missing = refused missing
+  pub answered : (report : Report) → Answered k report (checkedFor k report)
+  unfolding checkedFor
+  answered (Report.Deep s t p) = with-reading (Report.Deep s t p) (deepOf s t p) refl (allFinite (Report.Deep s t p)) refl
+  answered (Report.Surface s t) = with-reading (Report.Surface s t) (surfaceOf s t) refl (allFinite (Report.Surface s t)) refl
+  answered Report.Missing = refused missing
 
-pub taken-on-grid : (report : Report) (p : Point) → checkedOf report ≡ Checked.Taken p → OnGrid p
-taken-on-grid report p e = go (subst (Answered report) e (answered report))
-  where
-    go : Answered report (Checked.Taken p) → OnGrid p
-    go (taken r w n g) = g
+  pub taken-on-grid : (report : Report) (p : Point) → checkedFor k report ≡ Checked.Taken p → Lying k p
+  taken-on-grid report p e = go (subst (Answered k report) e (answered report))
+    where
+      go : Answered k report (Checked.Taken p) → Lying k p
+      go (taken r w n g) = g
 
--- its numbers are those of its reading's floats
-pub taken-gridded : (report : Report) (r : Reading) (p : Point) → givenOf report ≡ some r → checkedOf report ≡ Checked.Taken p → Gridded r p
-taken-gridded report r p h e = go (subst (Answered report) e (answered report))
-  where
-    one : (q : Reading) → givenOf report ≡ some q → q ≡ r
-    one q g = let z : some q ≡ some r = sym g ∙ h in cc
+  -- its numbers are those of its reading's floats
+  pub taken-gridded : (report : Report) (r : Reading) (p : Point) → givenOf report ≡ some r → checkedFor k report ≡ Checked.Taken p → Gridded r p
+  taken-gridded report r p h e = go (subst (Answered k report) e (answered report))
+    where
+      one : (q : Reading) → givenOf report ≡ some q → q ≡ r
+      one q g = let z : some q ≡ some r = sym g ∙ h in cc
 
-    go : Answered report (Checked.Taken p) → Gridded r p
-    go (taken q w n g) = subst (λ (x : Reading). Gridded x p) (one q (w .given)) n
+      go : Answered k report (Checked.Taken p) → Gridded r p
+      go (taken q w n g) = subst (λ (x : Reading). Gridded x p) (one q (w .given)) n
 
-pub refused-only : (report : Report) (x : Refusal) → checkedOf report ≡ Checked.Refused x → Reason report x
-refused-only report x e = go (subst (Answered report) e (answered report))
-  where
-    go : Answered report (Checked.Refused x) → Reason report x
-    go (refused r) = r
+  pub refused-only : (report : Report) (x : Refusal) → checkedFor k report ≡ Checked.Refused x → Reason k report x
+  refused-only report x e = go (subst (Answered k report) e (answered report))
+    where
+      go : Answered k report (Checked.Refused x) → Reason k report x
+      go (refused r) = r
 
--- and a reason is enough: each of them does refuse
-places : (r : Reading) (a b c : Bool) → inside salinities (r .salinity) ≡ a → inside temperatures (r .temperature) ≡ b → inside pressures (r .pressure) ≡ c
-    → placedOf r ≡ firstOutside (placed a salinities (r .salinity)) (placed b temperatures (r .temperature)) (placed c pressures (r .pressure))
-unfolding placedOf placeOf
-places r a b c s t p = cc
+  -- and a reason is enough: each of them does refuse
+  places : (r : Reading) (a b c : Bool) → inside salinities (r .salinity) ≡ a → inside (temperatures k) (r .temperature) ≡ b → inside pressures (r .pressure) ≡ c
+      → placedFor k r ≡ firstOutside (placed a salinities (r .salinity)) (placed b (temperatures k) (r .temperature)) (placed c pressures (r .pressure))
+  unfolding placedFor placeOf
+  places r a b c s t p = cc
 
-usable : (report : Report) (r : Reading) → Usable report r → checkedOf report ≡ placedOf r
-unfolding checkedOf
-usable report r w = ap₂ inOrder (w .given) (w .finite)
+  usable : (report : Report) (r : Reading) → Usable report r → checkedFor k report ≡ placedFor k r
+  unfolding checkedFor
+  usable report r w = ap₂ (inOrder _) (w .given) (w .finite)
 
-pub reason-refuses : {report : Report} {x : Refusal} → Reason report x → checkedOf report ≡ Checked.Refused x
-unfolding checkedOf
-reason-refuses missing = refl
-reason-refuses (not-finite r g f) = ap₂ inOrder g f
-reason-refuses {report} (salinity r w s) = usable report r w ∙ places r false _ _ s refl refl
-reason-refuses {report} (temperature r w s t) = usable report r w ∙ places r true false _ s t refl
-reason-refuses {report} (pressure r w s t p) = usable report r w ∙ places r true true false s t p
+  pub reason-refuses : {report : Report} {x : Refusal} → Reason k report x → checkedFor k report ≡ Checked.Refused x
+  unfolding checkedFor
+  reason-refuses missing = refl
+  reason-refuses (not-finite r g f) = ap₂ (inOrder _) g f
+  reason-refuses {report} (salinity r w s) = usable report r w ∙ places r false _ _ s refl refl
+  reason-refuses {report} (temperature r w s t) = usable report r w ∙ places r true false _ s t refl
+  reason-refuses {report} (pressure r w s t p) = usable report r w ∙ places r true true false s t p
 
--- ---- a reading that is taken has its salinity inside the range
-never : {x : Refusal} {p : Point} → Checked.Refused x ≡ Checked.Taken p → ⊥
-never e = let z : _≡_ {A = ℕ} 0 1 = cc in omega arith
+  -- ---- a reading that is taken has its salinity inside the range
+  never : {x : Refusal} {p : Point} → Checked.Refused x ≡ Checked.Taken p → ⊥
+  never e = let z : _≡_ {A = ℕ} 0 1 = cc in omega arith
 
-pub taken-inside : (report : Report) (r : Reading) (p : Point) → givenOf report ≡ some r → checkedOf report ≡ Checked.Taken p → T (inside salinities (r .salinity))
-taken-inside report r p g e = go (inside salinities (r .salinity)) (allFinite report) refl refl
-  where
-    go : (b : Bool) (f : Finite) → inside salinities (r .salinity) ≡ b → allFinite report ≡ f → T b
-    go true f s h = tt
-    go false Finite.No s h = absurd (never (sym (reason-refuses (not-finite r g h)) ∙ e))
-    go false Finite.Yes s h = absurd (never (sym (reason-refuses (salinity r (record { given = g; finite = h }) s)) ∙ e))
+  pub taken-inside : (report : Report) (r : Reading) (p : Point) → givenOf report ≡ some r → checkedFor k report ≡ Checked.Taken p → T (inside salinities (r .salinity))
+  taken-inside report r p g e = go (inside salinities (r .salinity)) (allFinite report) refl refl
+    where
+      go : (b : Bool) (f : Finite) → inside salinities (r .salinity) ≡ b → allFinite report ≡ f → T b
+      go true f s h = tt
+      go false Finite.No s h = absurd (never (sym (reason-refuses (not-finite r g h)) ∙ e))
+      go false Finite.Yes s h = absurd (never (sym (reason-refuses (salinity r (record { given = g; finite = h }) s)) ∙ e))

@@ -2,9 +2,13 @@
 -- dropped clause breaks these laws. Assumes nothing.
 use mathlib.Core.Path.{_≡_, sym, _∙_}
 use contract.Lifetimes
+use Rattle.readings.proofs.Purpose.coldest.Reads as coldest
 use Rattle.readings.proofs.Reading.surface.Reads as surface
 use Rattle.readings.proofs.Reading.finite.Reads as finite
 use Rattle.readings.proofs.check.Reads as check
+
+pub one-coldest : (κs : Lifetimes.Lfts 0) (a : _) (r r′ : _) (s s′ : _) → coldest.Learnt κs a r s → coldest.Learnt κs a r′ s′ → r ≡ r′
+one-coldest κs a r r′ s s′ e f = e ∙ sym f
 
 pub one-surface : (κs : Lifetimes.Lfts 0) (a : _) (r r′ : _) (s s′ : _) → surface.Learnt κs a r s → surface.Learnt κs a r′ s′ → r ≡ r′
 one-surface κs a r r′ s s′ e f = e ∙ sym f
@@ -16,6 +20,9 @@ pub one-check : (κs : Lifetimes.Lfts 0) (a : _) (r r′ : _) (s s′ : _) → c
 one-check κs a r r′ s s′ e f = e ∙ sym f
 
 -- ---- nothing is asked of the caller: `Asked` is what a contract requires
+pub free-coldest : (κs : Lifetimes.Lfts 0) (a : _) → coldest.Asked κs a
+free-coldest κs a = tt
+
 pub free-surface : (κs : Lifetimes.Lfts 0) (a : _) → surface.Asked κs a
 free-surface κs a = tt
 

@@ -4,10 +4,10 @@ use mathlib.Core.Option.{some}
 use mathlib.Core.Bool.{true, false}
 use lib.IntN.{pos}
 use lib.Signed.{_≤ℤ_}
-use Rattle.whole.specs.Arith.{neg}
 use Rattle.refusals.specs.declared.Refusal.{Refusal}
 use Rattle.floats.specs.Grid.{inside, gridNo}
-use Rattle.readings.specs.Check.{salinities, temperatures, pressures, givenOf, allFinite}
+use Rattle.readings.specs.Check.{coldest, salinities, temperatures, pressures, givenOf, allFinite}
+use Rattle.readings.specs.declared.Purpose.{Purpose}
 use Rattle.readings.specs.declared.Report.{Report}
 use Rattle.readings.specs.declared.Reading.{Reading}
 use Rattle.readings.specs.declared.Point.{Point}
@@ -15,13 +15,16 @@ use Rattle.readings.specs.declared.Finite.{Finite}
 use Rattle.readings.specs.declared.Checked.{Checked}
 
 -- σ, τ and π lie within the table
-pub record OnGrid (p : Point) : Type 0 where
+pub record Lying (w : Purpose) (p : Point) : Type 0 where
   pub sigma-low : pos 0 ≤ℤ p .sigma
   pub sigma-high : p .sigma ≤ℤ pos 42_000
-  pub tau-low : neg 2_000 ≤ℤ p .tau
+  pub tau-low : coldest w ≤ℤ p .tau
   pub tau-high : p .tau ≤ℤ pos 40_000
   pub pi-low : pos 0 ≤ℤ p .pi
   pub pi-high : p .pi ≤ℤ pos 100_000
+
+abbrev pub OnGrid : Point → Type 0
+OnGrid = Lying Purpose.Density
 
 -- p has the grid numbers of a reading's floats
 pub record Gridded (r : Reading) (p : Point) : Type 0 where
@@ -35,16 +38,16 @@ pub record Usable (report : Report) (r : Reading) : Type 0 where
   pub finite : allFinite report ≡ Finite.Yes
 
 -- each refusal's reason: its own check fails, and the checks before it do not
-pub data Reason : Report → Refusal → Type 0 where
-  missing : Reason Report.Missing Refusal.Missing
-  not-finite : {report : Report} (r : Reading) → givenOf report ≡ some r → allFinite report ≡ Finite.No → Reason report Refusal.NotFinite
-  salinity : {report : Report} (r : Reading) → Usable report r → inside salinities (r .salinity) ≡ false → Reason report Refusal.Salinity
+pub data Reason (w : Purpose) : Report → Refusal → Type 0 where
+  missing : Reason w Report.Missing Refusal.Missing
+  not-finite : {report : Report} (r : Reading) → givenOf report ≡ some r → allFinite report ≡ Finite.No → Reason w report Refusal.NotFinite
+  salinity : {report : Report} (r : Reading) → Usable report r → inside salinities (r .salinity) ≡ false → Reason w report Refusal.Salinity
   temperature : {report : Report} (r : Reading) → Usable report r → inside salinities (r .salinity) ≡ true
-      → inside temperatures (r .temperature) ≡ false → Reason report Refusal.Temperature
+      → inside (temperatures w) (r .temperature) ≡ false → Reason w report Refusal.Temperature
   pressure : {report : Report} (r : Reading) → Usable report r → inside salinities (r .salinity) ≡ true
-      → inside temperatures (r .temperature) ≡ true → inside pressures (r .pressure) ≡ false → Reason report Refusal.Pressure
+      → inside (temperatures w) (r .temperature) ≡ true → inside pressures (r .pressure) ≡ false → Reason w report Refusal.Pressure
 
 -- every answer is one of these two
-pub data Answered (report : Report) : Checked → Type 0 where
-  taken : {p : Point} (r : Reading) → Usable report r → Gridded r p → OnGrid p → Answered report (Checked.Taken p)
-  refused : {x : Refusal} → Reason report x → Answered report (Checked.Refused x)
+pub data Answered (w : Purpose) (report : Report) : Checked → Type 0 where
+  taken : {p : Point} (r : Reading) → Usable report r → Gridded r p → Lying w p → Answered w report (Checked.Taken p)
+  refused : {x : Refusal} → Reason w report x → Answered w report (Checked.Refused x)

@@ -8,20 +8,25 @@ use lib.Ieee.{Float, fin, binary32, ofBits}
 use Rattle.whole.specs.Arith.{neg}
 use Rattle.refusals.specs.declared.Refusal.{Refusal}
 use Rattle.floats.specs.Grid.{inside, gridNo, placeOf}
-use Rattle.readings.specs.Check.{surfaceOf, placedOf, checkedOf}
+use Rattle.readings.specs.Check.{surfaceOf, placedFor, checkedFor}
+use Rattle.readings.specs.declared.Purpose.{Purpose}
 use Rattle.readings.specs.declared.Report.{Report}
 use Rattle.readings.specs.declared.Checked.{Checked}
 
 pub record Sample : Type 0 where
+  pub purpose : Purpose
   pub report : Report
   pub answer : Checked
 
 -- salinity, temperature and pressure as bit patterns
 abbrev deep : ℕ → ℕ → ℕ → Checked → Sample
-deep s t p c = record { report = Report.Deep (ofBits binary32 s) (ofBits binary32 t) (ofBits binary32 p); answer = c }
+deep s t p c = record { purpose = Purpose.Density; report = Report.Deep (ofBits binary32 s) (ofBits binary32 t) (ofBits binary32 p); answer = c }
 
 abbrev surface : ℕ → ℕ → Checked → Sample
-surface s t c = record { report = Report.Surface (ofBits binary32 s) (ofBits binary32 t); answer = c }
+surface s t c = record { purpose = Purpose.Density; report = Report.Surface (ofBits binary32 s) (ofBits binary32 t); answer = c }
+
+abbrev carbon : ℕ → ℕ → Checked → Sample
+carbon s t c = record { purpose = Purpose.Carbon; report = Report.Surface (ofBits binary32 s) (ofBits binary32 t); answer = c }
 
 abbrev point : ℤ → ℤ → ℤ → Checked
 point σ τ π = Checked.Taken (record { sigma = σ; tau = τ; pi = π })
@@ -53,11 +58,18 @@ samples =
     ∷ deep 0x422c_0000 0x4220_0000 0xff80_0000 (no Refusal.NotFinite)
     ∷ deep 0x422c_0000 0x4220_0001 0x447a_0001 (no Refusal.Salinity)
     ∷ deep 0x4228_0000 0x4220_0001 0x447a_0001 (no Refusal.Temperature)
-    ∷ record { report = Report.Missing; answer = no Refusal.Missing }
+    ∷ record { purpose = Purpose.Density; report = Report.Missing; answer = no Refusal.Missing }
+    -- for carbon dioxide: 0 °C and the next float below it, 40 °C and the next above it, 42.0001, and a missing one
+    ∷ carbon 0x420c_0000 0x0000_0000 (point (pos 35_000) (pos 0) (pos 0))
+    ∷ carbon 0x420c_0000 0x8000_0001 (no Refusal.Temperature)
+    ∷ carbon 0x4228_0000 0x4220_0000 (point (pos 42_000) (pos 40_000) (pos 0))
+    ∷ carbon 0x4228_0000 0x4220_0001 (no Refusal.Temperature)
+    ∷ carbon 0x4228_001a 0x8000_0001 (no Refusal.Salinity)
+    ∷ record { purpose = Purpose.Carbon; report = Report.Missing; answer = no Refusal.Missing }
     ∷ []
 
-pub samples-hold : map (λ (s : Sample). checkedOf (s .report)) samples ≡ map (λ (s : Sample). s .answer) samples
-unfolding samples checkedOf placedOf placeOf inside gridNo ofBits
+pub samples-hold : map (λ (s : Sample). checkedFor (s .purpose) (s .report)) samples ≡ map (λ (s : Sample). s .answer) samples
+unfolding samples checkedFor placedFor placeOf inside gridNo ofBits
 samples-hold = refl
 
 -- at the surface the pressure is 0 itself, whatever the other floats are

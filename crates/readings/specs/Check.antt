@@ -1,23 +1,28 @@
 -- SPEC, "A reading" and the rows 1 to 5 of "Refusal numbers and their order": what becomes of a report.
 use mathlib.Core.Option.{Option, some, none}
 use mathlib.Core.Bool.{Bool, true, false, _&&_}
-use lib.IntN.{pos}
+use lib.IntN.{ℤ, pos}
 use lib.Ieee.{Float, fin}
 use Rattle.whole.specs.Arith.{neg}
 use Rattle.refusals.specs.declared.Refusal.{Refusal}
 use Rattle.floats.specs.Grid.{Range, range, finite, placeOf}
 use Rattle.floats.specs.declared.Place.{Place}
+use Rattle.readings.specs.declared.Purpose.{Purpose}
 use Rattle.readings.specs.declared.Report.{Report}
 use Rattle.readings.specs.declared.Reading.{Reading}
 use Rattle.readings.specs.declared.Finite.{Finite}
 use Rattle.readings.specs.declared.Checked.{Checked}
 
--- the table: 0 to 42 and -2 to 40 on a grid of 0.001, 0 to 1,000 on a grid of 0.01
+-- the table: 0 to 42 and -2 to 40 on a grid of 0.001, 0 to 1,000 on a grid of 0.01; for carbon dioxide 0 to 40 in place of -2 to 40
 abbrev pub salinities : Range
 salinities = range (pos 0) (pos 42_000) 1000
 
-abbrev pub temperatures : Range
-temperatures = range (neg 2_000) (pos 40_000) 1000
+abbrev pub coldest : Purpose → ℤ
+coldest Purpose.Density = neg 2_000
+coldest Purpose.Carbon = pos 0
+
+abbrev pub temperatures : Purpose → Range
+temperatures w = range (coldest w) (pos 40_000) 1000
 
 abbrev pub pressures : Range
 pressures = range (pos 0) (pos 100_000) 100
@@ -58,16 +63,20 @@ firstOutside (Place.At σ) (Place.At τ) Place.Outside = Checked.Refused Refusal
 firstOutside (Place.At σ) (Place.At τ) (Place.At π) = Checked.Taken (record { sigma = σ; tau = τ; pi = π })
 
 -- where the reading's floats stand
-unfoldable pub placedOf : Reading → Checked
-placedOf r =
-    firstOutside (placeOf salinities (r .salinity)) (placeOf temperatures (r .temperature)) (placeOf pressures (r .pressure))
+unfoldable pub placedFor : Purpose → Reading → Checked
+placedFor w r =
+    firstOutside (placeOf salinities (r .salinity)) (placeOf (temperatures w) (r .temperature)) (placeOf pressures (r .pressure))
 
 -- 1, then 2, then 3, 4, 5
-abbrev pub inOrder : Option Reading → Finite → Checked
-inOrder none f = Checked.Refused Refusal.Missing
-inOrder (some r) Finite.No = Checked.Refused Refusal.NotFinite
-inOrder (some r) Finite.Yes = placedOf r
+abbrev pub inOrder : Purpose → Option Reading → Finite → Checked
+inOrder w none f = Checked.Refused Refusal.Missing
+inOrder w (some r) Finite.No = Checked.Refused Refusal.NotFinite
+inOrder w (some r) Finite.Yes = placedFor w r
 
 -- what becomes of a report: the first refusal that applies, or the grid numbers
-unfoldable pub checkedOf : Report → Checked
-checkedOf report = inOrder (givenOf report) (allFinite report)
+unfoldable pub checkedFor : Purpose → Report → Checked
+checkedFor w report = inOrder w (givenOf report) (allFinite report)
+
+-- for its density
+abbrev pub checkedOf : Report → Checked
+checkedOf = checkedFor Purpose.Density

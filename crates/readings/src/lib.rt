@@ -1,7 +1,7 @@
 // From a probe's report to the grid numbers of its reading, or to the first refusal that applies.
 ghost use mathlib.Core.Path.{_≡_};
 ghost use mathlib.Core.Option.{some};
-ghost use Rattle.readings.specs.Check.{surfaceOf, finiteOf, placedOf, inOrder, checkedOf};
+ghost use Rattle.readings.specs.Check.{coldest, surfaceOf, finiteOf, placedFor, inOrder, checkedFor};
 use floats::Place;
 use floats::grid;
 use refusals::Refusal;
@@ -39,6 +39,24 @@ pub enum Checked {
     Refused(Refusal),
 }
 
+// What a reading is wanted for: the table of ranges has a column for each.
+pub enum Purpose {
+    Density,
+    Carbon,
+}
+
+impl Purpose {
+    // The low end of its temperatures, as a grid number.
+    pub fn coldest(self) -> i32
+        ensures { λ r. ⌜ r ≡ coldest self ⌝ }
+    {
+        match self {
+            Purpose::Density => -2_000,
+            Purpose::Carbon => 0,
+        }
+    }
+}
+
 // The answer of check 2.
 pub enum Finite {
     Yes,
@@ -46,14 +64,12 @@ pub enum Finite {
 }
 
 impl Reading {
-    // The ends of each range as grid numbers, and the grid's steps to 1.
+    // The ends of each range as grid numbers, and the grid's steps to 1. The temperature's low end is its purpose's.
     pub const SALINITY_LOW: i32 = 0;
 
     pub const SALINITY_HIGH: i32 = 42_000;
 
     pub const SALINITY_STEPS: u32 = 1000;
-
-    pub const TEMPERATURE_LOW: i32 = -2_000;
 
     pub const TEMPERATURE_HIGH: i32 = 40_000;
 
@@ -91,9 +107,10 @@ impl Reading {
     }
 
     // Checks 3, 4 and 5.
-    fn placed(self) -> Checked
-        ensures { λ r. ⌜ r ≡ placedOf self ⌝ }
+    fn placed(self, purpose: Purpose) -> Checked
+        ensures { λ r. ⌜ r ≡ placedFor purpose self ⌝ }
     {
+        let coldest = purpose.coldest();
         let Place::At(sigma) = grid::place(
             self.salinity,
             Reading::SALINITY_LOW,
@@ -104,7 +121,7 @@ impl Reading {
         };
         let Place::At(tau) = grid::place(
             self.temperature,
-            Reading::TEMPERATURE_LOW,
+            coldest,
             Reading::TEMPERATURE_HIGH,
             Reading::TEMPERATURE_STEPS,
         ) else {
@@ -122,19 +139,19 @@ impl Reading {
     }
 
     // Checks 2 to 5.
-    fn checked(self) -> Checked
-        ensures { λ r. ⌜ r ≡ inOrder (some self) (finiteOf self) ⌝ }
+    fn checked(self, purpose: Purpose) -> Checked
+        ensures { λ r. ⌜ r ≡ inOrder purpose (some self) (finiteOf self) ⌝ }
     {
         let Finite::Yes = self.finite() else {
             return Checked::Refused(Refusal::NotFinite);
         };
-        self.placed()
+        self.placed(purpose)
     }
 }
 
-// Checks 1 to 5 in SPEC's order: the first that applies is the answer. Both kinds of reading call what follows check 1, which keeps it out of line.
-pub fn check(report: Report) -> Checked
-    ensures { λ r. ⌜ r ≡ checkedOf report ⌝ }
+// Checks 1 to 5 in SPEC's order, with the ranges of a purpose: the first that applies is the answer. Both kinds of reading call what follows check 1, which keeps it out of line.
+pub fn check(report: Report, purpose: Purpose) -> Checked
+    ensures { λ r. ⌜ r ≡ checkedFor purpose report ⌝ }
 {
     let Report::Surface(salinity, temperature) = report else {
         let Report::Deep(salinity, temperature, pressure) = report else {
@@ -145,8 +162,8 @@ pub fn check(report: Report) -> Checked
             temperature,
             pressure,
         };
-        return reading.checked();
+        return reading.checked(purpose);
     };
     let reading = Reading::surface(salinity, temperature);
-    reading.checked()
+    reading.checked(purpose)
 }

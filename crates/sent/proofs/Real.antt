@@ -12,7 +12,7 @@ use Rattle.sea.specs.Recipe.{rowsAt, rootAt, surface, K0, A, B, bulk, hundredth
 use Rattle.sea.specs.Water.{rangeOf, waterOf}
 use Rattle.floats.specs.Bytes.{floatOf}
 use Rattle.floats.specs.Grid.{inside, gridNo, placeOf}
-use Rattle.readings.specs.Check.{deepOf, surfaceOf, placedOf, checkedOf}
+use Rattle.readings.specs.Check.{deepOf, surfaceOf, placedFor, checkedFor}
 use Rattle.readings.specs.declared.Report.{Report}
 use Rattle.readings.specs.declared.Reading.{Reading}
 use Rattle.readings.specs.declared.Point.{Point}
@@ -64,11 +64,11 @@ abbrev cool-at : Point
 cool-at = record { sigma = pos 41_547; tau = pos 39_868; pi = pos 500 }
 
 warm-is : channelOf (Entry.Reading (deep warm)) ≡ Channel.Accepted warm-at 1_022_898 2_441_268
-unfolding ofBits channelOf checkedOf placedOf placeOf inside gridNo wateredOf waterOf rangeOf scaled rowValue rootFrom rootOf Dw Ds Dr Dss Kw Ks Kr Aw As Ar Bw Bs rowsAt rootAt surface K0 A B bulk hundredths mass net gain density shown bulkOf shownOf shownAt modulusAt
+unfolding ofBits channelOf checkedFor placedFor placeOf inside gridNo wateredOf waterOf rangeOf scaled rowValue rootFrom rootOf Dw Ds Dr Dss Kw Ks Kr Aw As Ar Bw Bs rowsAt rootAt surface K0 A B bulk hundredths mass net gain density shown bulkOf shownOf shownAt modulusAt
 warm-is = refl
 
 cool-is : channelOf (Entry.Reading (deep cool)) ≡ Channel.Accepted cool-at 1_023_092 2_442_739
-unfolding ofBits channelOf checkedOf placedOf placeOf inside gridNo wateredOf waterOf rangeOf scaled rowValue rootFrom rootOf Dw Ds Dr Dss Kw Ks Kr Aw As Ar Bw Bs rowsAt rootAt surface K0 A B bulk hundredths mass net gain density shown bulkOf shownOf shownAt modulusAt
+unfolding ofBits channelOf checkedFor placedFor placeOf inside gridNo wateredOf waterOf rangeOf scaled rowValue rootFrom rootOf Dw Ds Dr Dss Kw Ks Kr Aw As Ar Bw Bs rowsAt rootAt surface K0 A B bulk hundredths mass net gain density shown bulkOf shownOf shownAt modulusAt
 cool-is = refl
 
 -- the needle between them, 1,023,092 − 1,023,090
@@ -110,7 +110,7 @@ abbrev far : Reading
 far = deepOf (floatOf 0x7B 0xD4 0x27 0x42) (floatOf 0x81 0xD5 0x1F 0x42) (floatOf 0xEC 0x51 0x18 0x3F)
 
 far-is : channelOf (Entry.Reading (deep far)) ≡ Channel.Accepted (record { sigma = pos 41_958; tau = pos 39_958; pi = pos 60 }) 1_023_176 2_443_048
-unfolding ofBits channelOf checkedOf placedOf placeOf inside gridNo wateredOf waterOf rangeOf scaled rowValue rootFrom rootOf Dw Ds Dr Dss Kw Ks Kr Aw As Ar Bw Bs rowsAt rootAt surface K0 A B bulk hundredths mass net gain density shown bulkOf shownOf shownAt modulusAt
+unfolding ofBits channelOf checkedFor placedFor placeOf inside gridNo wateredOf waterOf rangeOf scaled rowValue rootFrom rootOf Dw Ds Dr Dss Kw Ks Kr Aw As Ar Bw Bs rowsAt rootAt surface K0 A B bulk hundredths mass net gain density shown bulkOf shownOf shownAt modulusAt
 far-is = refl
 
 pub shows-far : Shows far 1_023_176

@@ -11,7 +11,8 @@ use types.Run.{OneOf}
 use denote.Enum.Declared.{tagOf}
 use lib.Ieee.{Float}
 use Rattle.refusals.specs.declared.Refusal.{Refusal}
-use Rattle.readings.specs.Check.{surfaceOf, finiteOf, inOrder, checkedOf}
+use Rattle.readings.specs.Check.{surfaceOf, finiteOf, inOrder, checkedFor}
+use Rattle.readings.specs.declared.Purpose.{Purpose}
 use Rattle.readings.specs.declared.Report.{Report}
 use Rattle.readings.specs.declared.Reading.{Reading}
 use Rattle.readings.specs.declared.Checked.{Checked}
@@ -20,18 +21,18 @@ use Rattle.readings.proofs.check.Statement.{statement}
 use Rattle.readings.proofs.check.Tie as tie
 
 -- the variants by their numbers, from 0: neither the second nor the first
-missing : (r : Report) → OneOf (0 ∷ 2 ∷ []) (tagOf variants.the-type r) → OneOf (1 ∷ 2 ∷ []) (tagOf variants.the-type r)
-    → Checked.Refused Refusal.Missing ≡ checkedOf r
-unfolding checkedOf
-missing (Report.Deep s t p) a (inl e) = absurd (omega (arith, e))
-missing (Report.Deep s t p) a (inr e) = absurd (omega (arith, e))
-missing (Report.Surface s t) (inl e) b = absurd (omega (arith, e))
-missing (Report.Surface s t) (inr e) b = absurd (omega (arith, e))
-missing Report.Missing a b = refl
+missing : (w : Purpose) (r : Report) → OneOf (0 ∷ 2 ∷ []) (tagOf variants.the-type r) → OneOf (1 ∷ 2 ∷ []) (tagOf variants.the-type r)
+    → Checked.Refused Refusal.Missing ≡ checkedFor w r
+unfolding checkedFor
+missing w (Report.Deep s t p) a (inl e) = absurd (omega (arith, e))
+missing w (Report.Deep s t p) a (inr e) = absurd (omega (arith, e))
+missing w (Report.Surface s t) (inl e) b = absurd (omega (arith, e))
+missing w (Report.Surface s t) (inr e) b = absurd (omega (arith, e))
+missing w Report.Missing a b = refl
 
-at-surface : (s t : Float) {r : Reading} → r ≡ surfaceOf s t → inOrder (some r) (finiteOf r) ≡ checkedOf (Report.Surface s t)
-unfolding checkedOf
-at-surface s t e = rw (e, and-true)
+at-surface : (w : Purpose) (s t : Float) {r : Reading} → r ≡ surfaceOf s t → inOrder w (some r) (finiteOf r) ≡ checkedFor w (Report.Surface s t)
+unfolding checkedFor
+at-surface w s t e = rw (e, and-true)
 
 enum-known-report : tie.Need-enum-known-report
 enum-known-report c = search needs
@@ -40,14 +41,14 @@ enum-known-report-2 : tie.Need-enum-known-report-2
 enum-known-report-2 c = search needs
 
 returns : tie.Need-returns
-returns c = missing (c .before .before .args .report) (c .before .match .keys2) (c .match2 .keys2)
+returns c = missing _ (c .before .before .args .report) (c .before .match .keys2) (c .match2 .keys2)
 
 checked-requires : tie.Need-checked-requires
 checked-requires c κs = search needs
 
 returns-2 : tie.Need-returns-2
-unfolding checkedOf
-returns-2 c = c .checked .ensures ∙ sym (ap checkedOf (c .before .before .report2 .given .1))
+unfolding checkedFor
+returns-2 c = c .checked .ensures ∙ sym (ap (checkedFor _) (c .before .before .report2 .given .1))
 
 surface-requires : tie.Need-surface-requires
 surface-requires c κs = search needs
@@ -57,7 +58,7 @@ checked-requires-2 c κs = search needs
 
 returns-3 : tie.Need-returns-3
 returns-3 c =
-    c .checked2 .ensures ∙ at-surface _ _ (c .before .surface .ensures) ∙ sym (ap checkedOf (c .before .before .before .report .given .1))
+    c .checked2 .ensures ∙ at-surface _ _ _ (c .before .surface .ensures) ∙ sym (ap (checkedFor _) (c .before .before .before .report .given .1))
 
 pub check-spec : {M : Type 1} → statement M
 check-spec =
