@@ -1,15 +1,15 @@
--- How far a fraction is from a whole number of units, of which u make 1: sums, differences, scaled products and rows of any
--- length. All rests on one law for the sum and one for the scaled product, each said of naturals and used for both sides of
--- an error and both signs. Assumes nothing.
+-- How far a fraction is from a whole number of units, of which u make 1: sums, differences, products rounded down, scaled products
+-- and rows of any length. All rests on one law for the sum, one for the product by c/d and one for the scaled product, each said of
+-- naturals and used for both sides of an error and both signs. Assumes nothing.
 use Prim.Native.Nat.{ℕ, zero, suc, _+_, _*_, _-_, _≤_, _<_}
 use mathlib.Core.Path.{_≡_, refl, sym, ap}
 use mathlib.Core.List.{List, [], _∷_}
 use native.Mathlib.Omega.{arith}
-use native.Mathlib.Nat.{mul-le-mul-right, mul-le-mul-left, mul-pos}
+use native.Mathlib.Nat.{mul-le-mul-right, mul-le-mul-left, mul-pos, le-of-mul-le-mul-right}
 use lib.IntN.{ℤ, pos, negsuc, _+ℤ_, _-ℤ_, _*ℤ_}
-use Rattle.whole.specs.Arith.{plus, minus, scaled, rowValue}
-use Rattle.whole.specs.Fraction.{Frac, units, _≤F_, _⊕_, _⊖_, _⊗_, rowF}
-use Rattle.whole.proofs.Ints.{no-minus, to-≤ℤ, of-≤ℤ, add-is, sub-is, mul-plus, mul-minus, scaled-is, scaledN}
+use Rattle.whole.specs.Arith.{plus, minus, floorDiv, scaled, rowValue}
+use Rattle.whole.specs.Fraction.{Frac, over, units, _≤F_, _⊕_, _⊖_, _⊗_, rowF}
+use Rattle.whole.proofs.Ints.{no-minus, to-≤ℤ, of-≤ℤ, add-is, sub-is, mul-plus, mul-minus, floored, scaled-is, scaledN}
 use Rattle.whole.proofs.Interval.{Between}
 
 -- r − a ≤ u·f ≤ r + b
@@ -81,6 +81,41 @@ module _ {u : ℕ} {f g : Frac} {r s : ℤ} {a b c d : ℕ} (n : Near u f r a b)
         high = omega (arith, sum-side u _ _ (minus (f .num)) _ _ (plus (g .num)) _ _ (minus r) _ (plus s) _ _ _ b c (sym e) (sym k) (turned n) (m .low));
       }
 
+-- ---- a fraction times c/d, rounded down
+-- v·(A − B)/g is at least R − T − a, m·(Q − N) is at most (R − T)·x + e, and u·c/d is v·x/m: so (u·c/d)·(A − B)/g is at least Q − N − a′
+floor-side : (u v c d x m A B g R T Q N a a′ e : ℕ) → 0 < m → u * c * m ≡ v * x * d → R * g + v * B ≤ v * A + T * g + a * g → m * Q + T * x ≤ R * x + m * N + e →
+    a * x + e ≤ m * a′ → Q * (d * g) + u * (c * B) ≤ u * (c * A) + N * (d * g) + a′ * (d * g)
+floor-side u v c d x m A B g R T Q N a a′ e h is n s w =
+    let k = d * g in
+    le-of-mul-le-mul-right {k = m}
+    (omega (
+      arith,
+      linear (m * Q * k) (m * N * k) (R * x * k) (T * x * k) (a * x * k) (e * k) (m * a′ * k) (v * x * d * A) (v * x * d * B) (omega (arith, mul-le-mul-right (x * d) n))
+          (omega (arith, mul-le-mul-right k s)) (omega (arith, mul-le-mul-right k w)),
+      ap (_* A) is,
+      ap (_* B) is,
+    ))
+    h
+  where
+    linear : (Q N R T a e a′ A B : ℕ) → R + B ≤ A + T + a → Q + T ≤ R + N + e → a + e ≤ a′ → Q + B ≤ A + N + a′
+    linear Q N R T a e a′ A B n s w = omega arith
+
+-- v·f is near r, and u·c/d is v·x/m: so u·(c/d)·f is near r·x/m, rounded down; for m = 1 nothing is rounded
+pub near-floor : {u v : ℕ} {f : Frac} {r : ℤ} {a b : ℕ} (c d x m a′ b′ : ℕ) → 0 < d → 0 < m → u * c * m ≡ v * x * d → a * x ≤ m * a′ → b * x + m ≤ m * b′ + 1 →
+    Near v f r a b → Near u (over c d ⊗ f) (floorDiv (r *ℤ pos x) m) a′ b′
+unfolding _⊗_
+near-floor {u} {v} {f} {r} {a} {b} c d x m a′ b′ hd hm is ha hb n =
+    let A = plus (f .num) in
+    let B = minus (f .num) in
+    let q = floorDiv (r *ℤ pos x) m in
+    let p : u * plus (pos c *ℤ f .num) ≡ u * (c * A) = omega (arith, ap (u *_) (mul-plus (pos c) (f .num))) in
+    let l : u * minus (pos c *ℤ f .num) ≡ u * (c * B) = omega (arith, ap (u *_) (mul-minus (pos c) (f .num))) in
+    let s = floored (r *ℤ pos x) m hm in
+    let i = times-is r x in
+    let low = floor-side u v c d x m A B (f .den) (plus r) (minus r) (plus q) (minus q) a a′ 0 hm is (n .low) (omega (arith, s .low, i)) (omega arith) in
+    let high = floor-side u v c d x m B A (f .den) (minus r) (plus r) (minus q) (plus q) b b′ (m - 1) hm is (turned n) (omega (arith, s .high, i)) (omega arith) in
+    record { above = mul-pos hd (n .above); low = omega (arith, low, p, l); high = omega (arith, high, p, l) }
+
 -- ---- scaled products
 -- (A − B)/g is at least R − T − a and at least −M, x/y is from k to k + d in 10⁻⁵, and q − p is (R − T)·k/100,000 or at most
 -- c/100,000 more: the product of the two fractions is at least q − p − a′
@@ -140,9 +175,9 @@ near-scale {u} {x} {f} {r} {a} {b} {k} {d} M a′ b′ v n Mu Ml ha hb =
 -- the product by a grid number up to X, which is exact
 pub near-grid : {u : ℕ} {f : Frac} {r : ℤ} {a b : ℕ} (k X a′ b′ : ℕ) → k ≤ X → a * X ≤ 100_000 * a′ → 100_000 + b * X ≤ 100_000 * b′ → Near u f r a b →
     Near u (units 100_000 (pos k) ⊗ f) (scaled r (pos k)) a′ b′
+unfolding units scaled
 near-grid {u} {f} {r} {a} {b} k X a′ b′ h ha hb n =
-    near-scale (plus r + minus r + a + b) a′ b′ (near-units 100_000 (pos k) (omega arith)) n (omega arith) (omega arith)
-    (omega (arith, mul-le-mul-left a h)) (omega (arith, mul-le-mul-left b h))
+    near-floor k 100_000 k 100_000 a′ b′ (omega arith) (omega arith) refl (omega (arith, mul-le-mul-left a h)) (omega (arith, mul-le-mul-left b h)) n
 
 -- ---- rows
 -- the scaled product by a temperature of the grid keeps an error from 1 below to 2 above

@@ -1,0 +1,7 @@
+pub mod Series
+pub mod Salt
+pub mod Sum
+pub mod Answers
+pub mod One
+pub mod Points
+pub mod Samples

@@ -1,0 +1,2 @@
+pub mod Weiss
+pub mod Carbon

@@ -1,0 +1,5 @@
+pub mod Series
+pub mod Mirror
+pub mod Log
+pub mod Sum
+pub mod Promises

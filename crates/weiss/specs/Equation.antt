@@ -1,0 +1,60 @@
+-- Equation (30) of source 001 in exact fractions, and how near the panel's ln K0 is promised to be. Proved in proofs/Promises.
+use Prim.Native.Nat.{ℕ, zero, suc, _+_, _^_, _≤_, _<_}
+use lib.IntN.{ℤ, pos, _-ℤ_}
+use Rattle.whole.specs.Arith.{neg}
+use Rattle.whole.specs.Fraction.{Frac, over, units, _≤F_, _⊕_, _⊖_, _⊗_}
+use Rattle.carbon.specs.Weiss.{lnK0}
+
+-- p/d + p·z/(d + 2) + p·z²/(d + 4) and on, k terms
+unfoldable pub termsF : Frac → ℕ → ℕ → Frac → Frac
+termsF z zero d p = over 0 1
+termsF z (suc k) d p = over 1 d ⊗ p ⊕ termsF z k (d + 2) (z ⊗ p)
+
+-- x + x³/3 + x⁵/5 and on, k terms
+unfoldable pub oddF : Frac → ℕ → Frac
+oddF x k = termsF (x ⊗ x) k 1 x
+
+-- T/100 and (T − 300)/(T + 300); n is T in 0.001 K
+abbrev pub hundreds : ℕ → Frac
+hundreds n = over n 100_000
+
+unfoldable pub besideF : ℕ → Frac
+besideF n = units (n + 300_000) (pos n -ℤ pos 300_000)
+
+-- ln(T/100), with j terms for ln 3 and k for the rest
+unfoldable pub lnF : ℕ → ℕ → ℕ → Frac
+lnF j k n = over 2 1 ⊗ oddF (over 1 2) j ⊕ over 2 1 ⊗ oddF (besideF n) k
+
+-- what S is multiplied by: 0.023517 − 0.023656·(T/100) + 0.0047036·(T/100)²
+unfoldable pub saltF : ℕ → Frac
+saltF n = units (10 ^ 6) (pos 23517) ⊕ hundreds n ⊗ (units (10 ^ 6) (neg 23656) ⊕ hundreds n ⊗ units (10 ^ 7) (pos 47036))
+
+-- the right side of equation (30); 100/T is 100,000/n, S is σ/1,000
+unfoldable pub equation30 : ℕ → ℕ → ℕ → ℕ → Frac
+equation30 j k σ n =
+    over 93_4517 (10 ^ 4) ⊗ over 100_000 n ⊖ over 60_2409 (10 ^ 4) ⊕ over 23_3585 (10 ^ 4) ⊗ lnF j k n ⊕ over σ 1_000 ⊗ saltF n
+
+-- ---- the promise
+-- grid salinity and temperature in 0.001 K, of salinity 0 to 42 and 0 to 40 °C
+pub record Mild (σ n : ℕ) : Type 0 where
+  pub salt : σ ≤ 42_000
+  pub cold : 273_150 ≤ n
+  pub warm : n ≤ 313_150
+
+-- z millionths are within e of f, a fraction whose lower number is above 0
+pub record LnWithin (e : Frac) (z : ℤ) (f : Frac) : Type 0 where
+  pub fraction : 0 < f .den
+  pub upper : f ≤F units 1_000_000 z ⊕ e
+  pub lower : units 1_000_000 z ≤F f ⊕ e
+
+-- from the definition's numbers of terms on, 16 and 4, with any numbers of terms, ln K0 is within e of the equation
+abbrev pub CarbonWithin : Frac → Type 0
+CarbonWithin e = (j k σ n : ℕ) → 16 ≤ j → 4 ≤ k → Mild σ n → LnWithin e (lnK0 σ n) (equation30 j k σ n)
+
+-- document 02's 2 millionths
+abbrev pub WithinTwo : Type 0
+WithinTwo = CarbonWithin (over 2 1_000_000)
+
+-- what the definition keeps: half a millionth of rounding, and less than a tenth of that for all else
+abbrev pub WithinKept : Type 0
+WithinKept = CarbonWithin (over 540 1_000_000_000)
