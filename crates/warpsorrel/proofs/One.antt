@@ -13,6 +13,7 @@ use Rattle.warpsorrel.proofs.warpsorrel_density.Reads as density
 use Rattle.warpsorrel.proofs.warpsorrel_bulk.Reads as bulk
 use Rattle.warpsorrel.proofs.warpsorrel_channel.Reads as channel
 use Rattle.warpsorrel.proofs.warpsorrel_needle.Reads as needle
+use Rattle.warpsorrel.proofs.warpsorrel_co2.Reads as co2
 use Rattle.warpsorrel.proofs.warpsorrel_recorder.Reads as recorder
 use Rattle.warpsorrel.proofs.warpsorrel_pairs.Reads as pairs
 use Rattle.warpsorrel.proofs.warpsorrel_pair.Reads as pair
@@ -46,6 +47,11 @@ pub one-needle :
     (κs : Lifetimes.Lfts 1) (a : _) (r r′ : _) (s s′ : _) → needle.Learnt κs a r s → needle.Learnt κs a r′ s′ →
     (r ≡ r′) × (s .1 .1 .1 .1 .1 .1 .1 .1 .0 .now ≡ s′ .1 .1 .1 .1 .1 .1 .1 .1 .0 .now)
 one-needle κs a r r′ s s′ e f = (e .0 ∙ sym (f .0), e .1 ∙ sym (f .1))
+
+pub one-co2 :
+    (κs : Lifetimes.Lfts 1) (a : _) (r r′ : _) (s s′ : _) → co2.Learnt κs a r s → co2.Learnt κs a r′ s′ →
+    (r ≡ r′) × (s .1 .1 .1 .1 .0 .now ≡ s′ .1 .1 .1 .1 .0 .now)
+one-co2 κs a r r′ s s′ e f = (e .0 ∙ sym (f .0), e .1 ∙ sym (f .1))
 
 pub one-pair :
     (κs : Lifetimes.Lfts 2) (a : _) (r r′ : _) (s s′ : _) → pair.Learnt κs a r s → pair.Learnt κs a r′ s′ →
@@ -87,6 +93,9 @@ free-channel κs a = tt
 
 pub free-needle : (κs : Lifetimes.Lfts 1) (a : _) → needle.Asked κs a
 free-needle κs a = tt
+
+pub free-co2 : (κs : Lifetimes.Lfts 1) (a : _) → co2.Asked κs a
+free-co2 κs a = tt
 
 pub free-recorder : (κs : Lifetimes.Lfts 0) (a : _) → recorder.Asked κs a
 free-recorder κs a = tt

@@ -5,6 +5,7 @@ ghost use lib.Seq.{sets};
 ghost use Rattle.floats.specs.Recorder.{recorderOf};
 ghost use Rattle.sea.specs.Water.{waterOf};
 ghost use Rattle.waters.specs.Numbers.{waterNumber, waterDensity, waterBulk};
+ghost use Rattle.carbon.specs.Carbon.{solubilityOf, solubilityNumber, solubilityValue};
 ghost use Rattle.channels.specs.Numbers.{channelNumber, needleNumber};
 ghost use Rattle.panel.specs.Panel.{channelOf, comparisonOf};
 ghost use Rattle.panel.specs.Pairing.{needleBetween, comparedFrom};
@@ -136,6 +137,23 @@ pub extern "C" fn warpsorrel_needle(
     let a = panel::beside(l, r);
     let b = panel::beside(r, l);
     put_needle(a, b, out)
+}
+
+// How much carbon dioxide a report's water will hold: 0 or its refusal; out gets ln K0 in millionths, 0 if refused. The pressure is not read.
+#[no_mangle]
+pub extern "C" fn warpsorrel_co2(
+    kind: u32,
+    salinity: f32,
+    temperature: f32,
+    pressure: f32,
+    out: &mut i64,
+) -> u32
+    ensures { λ r. ⌜ r ≡ solubilityNumber (solubilityOf (entryOf kind salinity temperature pressure)) ⌝ }
+    ensures { λ r. ⌜ now (out .exit) ≡ solubilityValue (solubilityOf (entryOf kind salinity temperature pressure)) ⌝ }
+{
+    let answer = carbon::answer(abi::entry_of(kind, salinity, temperature, pressure));
+    *out = answer.value();
+    answer.number()
 }
 
 // The float for the recorder, of a shown density.
