@@ -3,3 +3,4 @@ pub mod Mirror
 pub mod Log
 pub mod Sum
 pub mod Promises
+pub mod Calls

@@ -1,9 +1,19 @@
--- Equation (30) of source 001 in exact fractions, and how near the panel's ln K0 is promised to be. Proved in proofs/Promises.
+-- Equation (30) of source 001 in exact fractions, and how near the panel's ln K0 is promised to be. Proved in proofs/Promises; of what is answered
+-- in proofs/Calls, there also from the contract of `carbon::answer`.
 use Prim.Native.Nat.{ℕ, zero, suc, _+_, _^_, _≤_, _<_}
+use mathlib.Core.Path.{_≡_}
+use mathlib.Core.Option.{some}
 use lib.IntN.{ℤ, pos, _-ℤ_}
-use Rattle.whole.specs.Arith.{neg}
+use Rattle.whole.specs.Arith.{neg, plus}
 use Rattle.whole.specs.Fraction.{Frac, over, units, _≤F_, _⊕_, _⊖_, _⊗_}
-use Rattle.carbon.specs.Weiss.{lnK0}
+use Rattle.floats.specs.Grid.{gridNo}
+use Rattle.readings.specs.declared.Report.{Report}
+use Rattle.readings.specs.declared.Reading.{Reading}
+use Rattle.readings.specs.declared.Entry.{Entry}
+use Rattle.readings.specs.Check.{givenOf}
+use Rattle.carbon.specs.declared.Solubility.the-variants.{Known}
+use Rattle.carbon.specs.Weiss.{kelvin, lnK0}
+use Rattle.carbon.specs.Carbon.{solubilityOf}
 
 -- p/d + p·z/(d + 2) + p·z²/(d + 4) and on, k terms
 unfoldable pub termsF : Frac → ℕ → ℕ → Frac → Frac
@@ -58,3 +68,10 @@ WithinTwo = CarbonWithin (over 2 1_000_000)
 -- what the definition keeps: half a millionth of rounding, and less than a tenth of that for all else
 abbrev pub WithinKept : Type 0
 WithinKept = CarbonWithin (over 540 1_000_000_000)
+
+-- of what is answered: a value for a report of the reading r is within e of the equation at the reading's own salinity and temperature, put on the
+-- grid
+abbrev pub HeldWithin : Frac → Type 0
+HeldWithin e =
+    (report : Report) (r : Reading) (z : ℤ) (j k : ℕ) → givenOf report ≡ some r → Known z ≡ solubilityOf (Entry.Reading report) → 16 ≤ j → 4 ≤ k →
+    LnWithin e z (equation30 j k (plus (gridNo 1000 (r .salinity))) (kelvin (gridNo 1000 (r .temperature))))
