@@ -57,10 +57,16 @@ fn ln_t(n: u64) -> u64
     requires { ⌜ 273_150 ≤ n ⌝ ∗ ⌜ n ≤ 313_150 ⌝ }
     ensures { λ r. ⌜ r ≡ lnT n ⌝ }
 {
+    let x = if n < 300_000 {
+        300_000 - n
+    } else {
+        n - 300_000
+    };
+    let twice = 2 * odd_series(x, n + 300_000);
     if n < 300_000 {
-        return 109_861_228_850 - 2 * odd_series(300_000 - n, n + 300_000);
+        return 109_861_228_850 - twice;
     }
-    109_861_228_850 + 2 * odd_series(n - 300_000, n + 300_000)
+    109_861_228_850 + twice
 }
 
 // What does not hang on the salinity, but for the constant.
@@ -110,7 +116,10 @@ pub fn answer(entry: Entry) -> Solubility
     match entry {
         Entry::Reading(report) => {
             let shallow = unpressed(report);
-            match readings::check(shallow, Purpose::Carbon) {
+            let Report::Surface(salinity, temperature) = shallow else {
+                return Solubility::Refused(Refusal::Missing);
+            };
+            match readings::check_surface(salinity, temperature, Purpose::Carbon) {
                 Checked::Taken(at) => Solubility::Known(ln_k0(at.sigma, at.tau)),
                 Checked::Refused(why) => Solubility::Refused(why),
             }

@@ -8,7 +8,6 @@ use channels::Needle;
 use readings::Checked;
 use readings::Entry;
 use readings::Point;
-use readings::Purpose;
 use sea::Sounding;
 
 // A channel's answer, and the density of its water under the pressure that it has in common with the other one: what the needle is made of.
@@ -23,7 +22,7 @@ pub fn entered(entry: Entry) -> Checked
     ensures { λ r. ⌜ r ≡ entered entry ⌝ }
 {
     match entry {
-        Entry::Reading(report) => match readings::check(report, Purpose::Density) {
+        Entry::Reading(report) => match readings::check(report) {
             Checked::Taken(at) => Checked::Taken(at),
             Checked::Refused(why) => Checked::Refused(why),
         },

@@ -1,4 +1,5 @@
 pub mod Reasons
+pub mod Placing
 pub mod Answers
 pub mod Entries
 pub mod One

@@ -6,6 +6,7 @@ use Rattle.readings.proofs.Purpose.coldest.Reads as coldest
 use Rattle.readings.proofs.Reading.surface.Reads as surface
 use Rattle.readings.proofs.Reading.finite.Reads as finite
 use Rattle.readings.proofs.check.Reads as check
+use Rattle.readings.proofs.check_surface.Reads as check-surface
 
 pub one-coldest : (κs : Lifetimes.Lfts 0) (a : _) (r r′ : _) (s s′ : _) → coldest.Learnt κs a r s → coldest.Learnt κs a r′ s′ → r ≡ r′
 one-coldest κs a r r′ s s′ e f = e ∙ sym f
@@ -19,6 +20,9 @@ one-finite κs a r r′ s s′ e f = e ∙ sym f
 pub one-check : (κs : Lifetimes.Lfts 0) (a : _) (r r′ : _) (s s′ : _) → check.Learnt κs a r s → check.Learnt κs a r′ s′ → r ≡ r′
 one-check κs a r r′ s s′ e f = e ∙ sym f
 
+pub one-check-surface : (κs : Lifetimes.Lfts 0) (a : _) (r r′ : _) (s s′ : _) → check-surface.Learnt κs a r s → check-surface.Learnt κs a r′ s′ → r ≡ r′
+one-check-surface κs a r r′ s s′ e f = e ∙ sym f
+
 -- ---- nothing is asked of the caller: `Asked` is what a contract requires
 pub free-coldest : (κs : Lifetimes.Lfts 0) (a : _) → coldest.Asked κs a
 free-coldest κs a = tt
@@ -31,3 +35,6 @@ free-finite κs a = tt
 
 pub free-check : (κs : Lifetimes.Lfts 0) (a : _) → check.Asked κs a
 free-check κs a = tt
+
+pub free-check-surface : (κs : Lifetimes.Lfts 0) (a : _) → check-surface.Asked κs a
+free-check-surface κs a = tt

@@ -1,7 +1,9 @@
 // From a probe's report to the grid numbers of its reading, or to the first refusal that applies.
 ghost use mathlib.Core.Path.{_≡_};
 ghost use mathlib.Core.Option.{some};
-ghost use Rattle.readings.specs.Check.{coldest, surfaceOf, finiteOf, placedFor, inOrder, checkedFor};
+ghost use Rattle.readings.specs.declared.Purpose.{Purpose};
+ghost use Rattle.readings.specs.declared.Report.{Report};
+ghost use Rattle.readings.specs.Check.{coldest, surfaceOf, finiteOf, placedFor, inOrder, checkedFor, checkedOf};
 use floats::Place;
 use floats::grid;
 use refusals::Refusal;
@@ -51,7 +53,7 @@ impl Purpose {
         ensures { λ r. ⌜ r ≡ coldest self ⌝ }
     {
         match self {
-            Purpose::Density => -2_000,
+            Purpose::Density => Reading::TEMPERATURE_LOW,
             Purpose::Carbon => 0,
         }
     }
@@ -64,12 +66,14 @@ pub enum Finite {
 }
 
 impl Reading {
-    // The ends of each range as grid numbers, and the grid's steps to 1. The temperature's low end is its purpose's.
+    // The ends of each range as grid numbers, and the grid's steps to 1.
     pub const SALINITY_LOW: i32 = 0;
 
     pub const SALINITY_HIGH: i32 = 42_000;
 
     pub const SALINITY_STEPS: u32 = 1000;
+
+    pub const TEMPERATURE_LOW: i32 = -2_000;
 
     pub const TEMPERATURE_HIGH: i32 = 40_000;
 
@@ -107,10 +111,9 @@ impl Reading {
     }
 
     // Checks 3, 4 and 5.
-    fn placed(self, purpose: Purpose) -> Checked
-        ensures { λ r. ⌜ r ≡ placedFor purpose self ⌝ }
+    fn placed(self) -> Checked
+        ensures { λ r. ⌜ r ≡ placedFor Purpose.Density self ⌝ }
     {
-        let coldest = purpose.coldest();
         let Place::At(sigma) = grid::place(
             self.salinity,
             Reading::SALINITY_LOW,
@@ -121,7 +124,7 @@ impl Reading {
         };
         let Place::At(tau) = grid::place(
             self.temperature,
-            coldest,
+            Reading::TEMPERATURE_LOW,
             Reading::TEMPERATURE_HIGH,
             Reading::TEMPERATURE_STEPS,
         ) else {
@@ -139,19 +142,19 @@ impl Reading {
     }
 
     // Checks 2 to 5.
-    fn checked(self, purpose: Purpose) -> Checked
-        ensures { λ r. ⌜ r ≡ inOrder purpose (some self) (finiteOf self) ⌝ }
+    fn checked(self) -> Checked
+        ensures { λ r. ⌜ r ≡ inOrder Purpose.Density (some self) (finiteOf self) ⌝ }
     {
         let Finite::Yes = self.finite() else {
             return Checked::Refused(Refusal::NotFinite);
         };
-        self.placed(purpose)
+        self.placed()
     }
 }
 
-// Checks 1 to 5 in SPEC's order, with the ranges of a purpose: the first that applies is the answer. Both kinds of reading call what follows check 1, which keeps it out of line.
-pub fn check(report: Report, purpose: Purpose) -> Checked
-    ensures { λ r. ⌜ r ≡ checkedFor purpose report ⌝ }
+// Checks 1 to 5 in SPEC's order, with the density's ranges: the first that applies is the answer. Both kinds of reading call what follows check 1, which keeps it out of line.
+pub fn check(report: Report) -> Checked
+    ensures { λ r. ⌜ r ≡ checkedOf report ⌝ }
 {
     let Report::Surface(salinity, temperature) = report else {
         let Report::Deep(salinity, temperature, pressure) = report else {
@@ -162,8 +165,42 @@ pub fn check(report: Report, purpose: Purpose) -> Checked
             temperature,
             pressure,
         };
-        return reading.checked(purpose);
+        return reading.checked();
     };
     let reading = Reading::surface(salinity, temperature);
-    reading.checked(purpose)
+    reading.checked()
+}
+
+// Checks 3 and 4 of a reading at the surface, whose pressure has its place already.
+fn placed_at_surface(salinity: f32, temperature: f32, purpose: Purpose) -> Checked
+    ensures { λ r. ⌜ r ≡ placedFor purpose (surfaceOf salinity temperature) ⌝ }
+{
+    let coldest = purpose.coldest();
+    let Place::At(sigma) = grid::place(
+        salinity,
+        Reading::SALINITY_LOW,
+        Reading::SALINITY_HIGH,
+        Reading::SALINITY_STEPS,
+    ) else {
+        return Checked::Refused(Refusal::Salinity);
+    };
+    let Place::At(tau) = grid::place(
+        temperature,
+        coldest,
+        Reading::TEMPERATURE_HIGH,
+        Reading::TEMPERATURE_STEPS,
+    ) else {
+        return Checked::Refused(Refusal::Temperature);
+    };
+    Checked::Taken(Point { sigma, tau, pi: 0 })
+}
+
+// Checks 2 to 4 of a reading at the surface: what a purpose asks for that reads no pressure.
+pub fn check_surface(salinity: f32, temperature: f32, purpose: Purpose) -> Checked
+    ensures { λ r. ⌜ r ≡ checkedFor purpose (Report.Surface salinity temperature) ⌝ }
+{
+    if grid::is_finite(salinity) && grid::is_finite(temperature) {
+        return placed_at_surface(salinity, temperature, purpose);
+    }
+    Checked::Refused(Refusal::NotFinite)
 }

@@ -1,45 +1,14 @@
 -- `Reading::placed` meets its contract: each answer is what `placedFor` computes to once the places found are put in.
 -- Assumes nothing.
 use borrow.Author.Needs.{needs}
-use Prim.Native.Nat.{_<_, _^_}
-use mathlib.Core.Path.{_≡_, refl, sym, ap, _∙_, subst}
-use lib.IntN.{ℤ, pos, natAbs}
-use lib.Dec.{lit<}
-use mir.Syntax.{w32}
-use mir.Val.{toZ, ofZ}
-use mir.ValLaws.{toZ-ofZ}
-use Rattle.floats.specs.Grid.{range, placeOf}
+use mathlib.Core.Path.{_≡_, refl, sym, _∙_}
+use Rattle.floats.specs.Grid.{placeOf}
 use Rattle.floats.specs.declared.Place.{Place}
-use Rattle.readings.specs.Check.{coldest, salinities, temperatures, pressures, firstOutside, placedFor}
+use Rattle.readings.specs.Check.{salinities, temperatures}
 use Rattle.readings.specs.declared.Purpose.{Purpose}
-use Rattle.readings.specs.declared.Reading.{Reading}
-use Rattle.readings.specs.declared.Checked.{Checked}
+use Rattle.readings.proofs.Placing.{by-places, same-point}
 use Rattle.readings.proofs.Reading.placed.Statement.{statement}
 use Rattle.readings.proofs.Reading.placed.Tie as tie
-
-by-places : (w : Purpose) (r : Reading) {s t p : Place} → placeOf salinities (r .salinity) ≡ s → placeOf (temperatures w) (r .temperature) ≡ t
-    → placeOf pressures (r .pressure) ≡ p → firstOutside s t p ≡ placedFor w r
-unfolding placedFor
-by-places w r a b c = cc
-
--- a point's numbers, read back from their bits
-same-point : {a b c d e f : ℤ} → a ≡ b → c ≡ d → e ≡ f
-    → Checked.Taken (record { sigma = a; tau = c; pi = e }) ≡ Checked.Taken (record { sigma = b; tau = d; pi = f })
-same-point p q r = cc
-
--- the cold end, as it is handed on
-cold-small : (w : Purpose) → natAbs (coldest w) < 2 ^ 23
-cold-small Purpose.Density = lit< tt
-cold-small Purpose.Carbon = lit< tt
-
-abbrev start : tie.After-coldest → tie.Start
-start c = c .before
-
-cold-is : (c : tie.After-coldest) → toZ w32 (ofZ w32 (c .coldest .result)) ≡ coldest (start c .args .purpose)
-cold-is c = toZ-ofZ w32 (c .coldest .result) (record { sfits = c .coldest .ok }) ∙ c .coldest .ensures
-
-coldest-requires : tie.Need-coldest-requires
-coldest-requires c κs = search needs
 
 place-requires : tie.Need-place-requires
 place-requires c κs = search needs
@@ -51,18 +20,13 @@ enum-told : tie.Need-enum-told
 enum-told c = search needs
 
 returns : tie.Need-returns
-returns c = let s = start (c .before .before .before) in by-places (s .args .purpose) (s .args .self) (sym (c .before .before .place .ensures) ∙ c .enum-told .given .1) refl refl
+returns c = by-places Purpose.Density (c .before .before .before .args .self) (sym (c .before .before .place .ensures) ∙ c .enum-told .given .1) refl refl
 
-abbrev first : tie.After-known-told → tie.After-coldest
-first k = k .before .before .before .before
-
-sigma-is : (k : tie.After-known-told) → placeOf salinities (start (first k) .args .self .salinity) ≡ Place.At (k .before .sigma .given .0 .0)
+sigma-is : (k : tie.After-known-told) → placeOf salinities (k .before .before .before .before .args .self .salinity) ≡ Place.At (k .before .sigma .given .0 .0)
 sigma-is k = sym (k .before .before .before .place .ensures) ∙ k .before .sigma .given .1
 
 place-requires-2 : tie.Need-place-requires-2
-place-requires-2 c κs =
-    let e = cold-is (first c) in
-    (lit< tt, (lit< tt, (subst (λ (z : ℤ). natAbs z < 2 ^ 23) (sym e) (cold-small (start (first c) .args .purpose)), lit< tt)))
+place-requires-2 c κs = search needs
 
 enum-known-tau : tie.Need-enum-known-tau
 enum-known-tau c = search needs
@@ -70,23 +34,14 @@ enum-known-tau c = search needs
 enum-told-2 : tie.Need-enum-told-2
 enum-told-2 c = search needs
 
--- the place found, on the range of the purpose
-tau-placed : (k : tie.After-known-told) {x : Place} → x ≡ placeOf (range (toZ w32 (ofZ w32 (first k .coldest .result))) (pos 40_000) 1000) (start (first k) .args .self .temperature)
-    → placeOf (temperatures (start (first k) .args .purpose)) (start (first k) .args .self .temperature) ≡ x
-tau-placed k e = ap (λ (z : ℤ). placeOf (range z (pos 40_000) 1000) (start (first k) .args .self .temperature)) (sym (cold-is (first k))) ∙ sym e
-
 returns-2 : tie.Need-returns-2
 returns-2 c =
     let k = c .before .before .before in
-    let s = start (first k) in
-    by-places (s .args .purpose) (s .args .self) (sigma-is k) (tau-placed k (c .before .before .place2 .ensures) ∙ c .enum-told2 .given .1) refl
-
-abbrev second : tie.After-known-told2 → tie.After-known-told
-second l = l .before .before .before .before
+    by-places Purpose.Density (k .before .before .before .before .args .self) (sigma-is k) (sym (c .before .before .place2 .ensures) ∙ c .enum-told2 .given .1) refl
 
 tau-is : (l : tie.After-known-told2)
-    → placeOf (temperatures (start (first (second l)) .args .purpose)) (start (first (second l)) .args .self .temperature) ≡ Place.At (l .before .tau .given .0 .0)
-tau-is l = tau-placed (second l) (l .before .before .before .place2 .ensures) ∙ l .before .tau .given .1
+    → placeOf (temperatures Purpose.Density) (l .before .before .before .before .before .before .before .before .args .self .temperature) ≡ Place.At (l .before .tau .given .0 .0)
+tau-is l = sym (l .before .before .before .place2 .ensures) ∙ l .before .tau .given .1
 
 place-requires-3 : tie.Need-place-requires-3
 place-requires-3 c κs = search needs
@@ -100,21 +55,20 @@ enum-told-3 c = search needs
 returns-3 : tie.Need-returns-3
 returns-3 c =
     let l = c .before .before .before in
-    let s = start (first (second l)) in
-    by-places (s .args .purpose) (s .args .self) (sigma-is (second l)) (tau-is l) (sym (c .before .before .place3 .ensures) ∙ c .enum-told3 .given .1)
+    let k = l .before .before .before .before in
+    by-places Purpose.Density (k .before .before .before .before .args .self) (sigma-is k) (tau-is l) (sym (c .before .before .place3 .ensures) ∙ c .enum-told3 .given .1)
 
 returns-4 : tie.Need-returns-4
 returns-4 c =
     let l = c .before .before .before .before in
-    let s = start (first (second l)) in
+    let k = l .before .before .before .before in
     same-point (search needs) (search needs) (search needs)
-    ∙ by-places (s .args .purpose) (s .args .self) (sigma-is (second l)) (tau-is l) (sym (c .before .before .before .place3 .ensures) ∙ c .before .pi .given .1)
+    ∙ by-places Purpose.Density (k .before .before .before .before .args .self) (sigma-is k) (tau-is l) (sym (c .before .before .before .place3 .ensures) ∙ c .before .pi .given .1)
 
 pub placed-spec : {M : Type 1} → statement M
 placed-spec =
     tie.close
     (tie.spec
-    coldest-requires
     place-requires
     enum-known-sigma
     enum-told
