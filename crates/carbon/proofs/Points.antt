@@ -3,7 +3,7 @@
 use Prim.Native.Nat.{ℕ}
 use mathlib.Core.Path.{_≡_, refl}
 use mathlib.Core.List.{List, [], _∷_, map}
-use lib.IntN.{ℤ, pos}
+use lib.IntN.{pos}
 use Rattle.whole.specs.Arith.{neg, scaled, rowValue}
 use Rattle.carbon.specs.Weiss.{terms, odd, ln3, lnT, byCold, byLog, salts, bySalt, fine, lnK0, kelvin}
 

@@ -1,16 +1,16 @@
 -- `carbon::ln_k0` meets its contract: each step of its code is a step of proofs/Sum. Assumes nothing.
 use Prim.Native.Nat.{ℕ, _+_, _≤_}
-use mathlib.Core.Path.{_≡_, ap, ap₂, sym, _∙_}
+use mathlib.Core.Path.{_≡_, ap, ap₂, _∙_}
 use native.Mathlib.Omega.{arith}
 use borrow.Author.Needs.{needs}
-use lib.IntN.{ℤ, pos, natAbs, _+ℤ_, _-ℤ_}
+use lib.IntN.{ℤ, pos, _+ℤ_, _-ℤ_}
 use mir.Syntax.{w64}
 use mir.ValLaws.{toZ-ofZ}
-use Rattle.whole.specs.Arith.{plus, minus, scaled, rowValue}
-use Rattle.whole.proofs.Ints.{size-is, pos-plus}
+use Rattle.whole.specs.Arith.{plus, scaled, rowValue}
+use Rattle.whole.proofs.Ints.{pos-plus}
 use Rattle.whole.proofs.Words.{word, word-as, fits-as, fits-size, given}
 use Rattle.carbon.specs.Weiss.{byCold, byLog, salts, bySalt, kelvin}
-use Rattle.carbon.proofs.Sum.{warmth, warmth-small, bySalt-small, warmed, warmed-small, total, total-small, rounded}
+use Rattle.carbon.proofs.Sum.{warmth, warmth-small, warmed, warmed-small, total, total-small, rounded}
 use Rattle.carbon.proofs.ln_k0.Statement.{statement}
 use Rattle.carbon.proofs.ln_k0.Tie as tie
 

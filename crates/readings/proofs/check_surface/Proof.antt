@@ -1,6 +1,6 @@
 -- `check_surface` meets its contract: the answer is 2 where the first or the second float's test failed. Assumes nothing.
 use borrow.Author.Needs.{needs}
-use mathlib.Core.Path.{_≡_, refl, sym, ap, _∙_}
+use mathlib.Core.Path.{_≡_, refl, sym, _∙_}
 use mathlib.Core.Logic.{⊎-elim}
 use mathlib.Core.Option.{some}
 use mathlib.Core.Bool.{Bool, _&&_}

@@ -1,5 +1,5 @@
 -- `warpsorrel_co2` meets its contract: the number and the value are those of what the kind and its floats stand for. Assumes nothing.
-use mathlib.Core.Path.{_≡_, ap, _∙_}
+use mathlib.Core.Path.{ap, _∙_}
 use borrow.Author.Needs.{needs}
 use mir.Syntax.{w64}
 use mir.ValLaws.{toZ-ofZ}
