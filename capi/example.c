@@ -19,6 +19,11 @@ struct channel {
     int64_t sigma, tau, pi, density, bulk;
 };
 
+struct co2 {
+    uint32_t refusal;
+    int64_t ln_k0;
+};
+
 struct needle {
     uint32_t refusal;
     int64_t left, right, value;
@@ -38,6 +43,12 @@ static struct channel channel_of(struct report r) {
     int64_t out[5];
     uint32_t refusal = warpsorrel_channel(r.kind, r.salinity, r.temperature, r.pressure, out);
     return (struct channel){refusal, out[0], out[1], out[2], out[3], out[4]};
+}
+
+static struct co2 co2_of(struct report r) {
+    struct co2 c;
+    c.refusal = warpsorrel_co2(r.kind, r.salinity, r.temperature, r.pressure, &c.ln_k0);
+    return c;
 }
 
 static struct needle needle_of(struct report l, struct report r) {
@@ -89,6 +100,15 @@ static void show_channel(struct report r) {
     printf("%s: refusal %" PRIu32 ", grid %" PRId64 " %" PRId64 " %" PRId64 ", density %" PRId64 ", bulk modulus %" PRId64 "\n", r.name,
            c.refusal, c.sigma, c.tau, c.pi, c.density, c.bulk);
     tell(c.refusal);
+}
+
+/* For carbon dioxide the temperature has a range of its own, and so has the refusal its own words. */
+static void show_co2(struct report r) {
+    struct co2 c = co2_of(r);
+    printf("co2 of %s: refusal %" PRIu32 ", ln K0 %" PRId64 "\n", r.name, c.refusal, c.ln_k0);
+    if (c.refusal == WARPSORREL_REFUSED_TEMPERATURE) printf("  %" PRIu32 ": the temperature is not from 0 to 40 degrees C\n", c.refusal);
+    else if (c.refusal != 0) tell(c.refusal);
+    else printf("  K0 is %.6f mol/(kg atm)\n", exp((double)c.ln_k0 / 1e6));
 }
 
 static void show_needle(struct report l, struct report r) {
@@ -158,12 +178,16 @@ int main(void) {
     const struct report broken = {"broken", WARPSORREL_SURFACE, NAN, 7.5f, 0};
     const struct report hot = {"hot", WARPSORREL_SURFACE, 34.25f, 40.5f, 0};
     const struct report abyss = {"abyss", WARPSORREL_DEEP, 34.25f, 7.5f, 1000.5f};
+    const struct report frost = {"frost", WARPSORREL_SURFACE, 34.25f, -1, 0};
+    const struct report blind = {"blind", WARPSORREL_DEEP, 34.25f, 7.5f, NAN}; /* the deep one's water, its depth not known */
     /* Records that gave no reading have a channel, and a place on a line, too. */
     const struct report cut = {"cut", WARPSORREL_CUT, 0, 0, 0};
     const struct report unknown = {"unknown", WARPSORREL_UNKNOWN, 0, 0, 0};
     const struct report length = {"length", WARPSORREL_LENGTH, 0, 0, 0};
-    const struct report every[] = {fjord, deep, none, broken, brine, hot, abyss, cut, unknown, length};
+    const struct report every[] = {fjord, deep, none, broken, brine, hot, abyss, frost, blind, cut, unknown, length};
     for (size_t i = 0; i < sizeof every / sizeof *every; i++) show_channel(every[i]);
+    /* The frost has a density and no ln K0; the abyss and the blind one, whose pressures are refused, have the deep one's ln K0 and no density. */
+    for (size_t i = 0; i < sizeof every / sizeof *every; i++) show_co2(every[i]);
     show_needle(fjord, deep);
     show_needle(deep, fjord);
     show_needle(shallow, deep);

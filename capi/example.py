@@ -3,6 +3,7 @@
 python3 example.py [SHARED-LIBRARY]"""
 import struct
 import sys
+from math import exp
 
 from warpsorrel import LINE, PAGE, Kind, Panel, Refusal, Report, Written
 
@@ -22,6 +23,12 @@ def show_channel(panel: Panel, name: str, report: Report) -> None:
     c = panel.channel(report)
     print(f"{name}: refusal {c.refusal:d}, grid {c.sigma} {c.tau} {c.pi}, density {c.density}, bulk modulus {c.bulk}")
     tell(c.refusal)
+
+
+def show_co2(panel: Panel, name: str, report: Report) -> None:
+    c = panel.co2(report)
+    print(f"co2 of {name}: refusal {c.refusal:d}, ln K0 {c.value}")
+    print(f"  {c.refusal:d}: {c.refusal.reason}" if c.refusal else f"  K0 is {exp(c.value / 1e6):.6f} mol/(kg atm)")
 
 
 def show_needle(panel: Panel, left_name: str, left: Report, right_name: str, right: Report) -> None:
@@ -64,10 +71,16 @@ def main(panel: Panel) -> None:
     broken = ("broken", Report.surface(float("nan"), 7.5))
     hot = ("hot", Report.surface(34.25, 40.5))
     abyss = ("abyss", Report.deep(34.25, 7.5, 1_000.5))
+    frost = ("frost", Report.surface(34.25, -1))
+    blind = ("blind", Report.deep(34.25, 7.5, float("nan")))  # the deep one's water, its depth not known
     # Records that gave no reading have a channel, and a place on a line, too.
     cut, unknown, length = ("cut", Report(Kind.CUT)), ("unknown", Report(Kind.UNKNOWN)), ("length", Report(Kind.LENGTH))
-    for each in (fjord, deep, none, broken, brine, hot, abyss, cut, unknown, length):
+    every = fjord, deep, none, broken, brine, hot, abyss, frost, blind, cut, unknown, length
+    for each in every:
         show_channel(panel, *each)
+    # The frost has a density and no ln K0; the abyss and the blind one, whose pressures are refused, have the deep one's ln K0 and no density.
+    for each in every:
+        show_co2(panel, *each)
     for left, right in ((fjord, deep), (deep, fjord), (shallow, deep), (fjord, brine), (none, deep)):
         show_needle(panel, *left, *right)
     show_recorder(panel, panel.channel(deep[1]).density)

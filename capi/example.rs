@@ -9,6 +9,7 @@ mod panel {
             pub fn warpsorrel_density(sigma: i64, tau: i64, pi: i64) -> u32;
             pub fn warpsorrel_bulk(sigma: i64, tau: i64, pi: i64) -> u32;
             pub fn warpsorrel_channel(kind: u32, salinity: f32, temperature: f32, pressure: f32, out: *mut [i64; 5]) -> u32;
+            pub fn warpsorrel_co2(kind: u32, salinity: f32, temperature: f32, pressure: f32, out: *mut i64) -> u32;
             pub fn warpsorrel_needle(
                 left_kind: u32, left_salinity: f32, left_temperature: f32, left_pressure: f32,
                 right_kind: u32, right_salinity: f32, right_temperature: f32, right_pressure: f32,
@@ -54,6 +55,14 @@ mod panel {
             1 => format!("left: {}", words),
             2 => format!("right: {}", words),
             _ => words.to_string(),
+        }
+    }
+
+    /// The same of a ln K0. For carbon dioxide the temperature has a range of its own, and so has the refusal its own words.
+    pub fn co2_words(refusal: u32) -> String {
+        match refusal {
+            4 => "the temperature is not from 0 to 40 degrees C".to_string(),
+            _ => words(refusal),
         }
     }
 
@@ -115,6 +124,14 @@ mod panel {
             let [sigma, tau, pi, density, bulk] = out;
             Channel { refusal, at: Grid { sigma, tau, pi }, density, bulk }
         }
+
+        /// How much carbon dioxide the water will hold. The pressure is not read.
+        pub fn co2(self) -> Co2 {
+            let (kind, salinity, temperature, pressure) = self.parts();
+            let mut ln_k0 = 0;
+            let refusal = unsafe { abi::warpsorrel_co2(kind, salinity, temperature, pressure, &mut ln_k0) };
+            Co2 { refusal, ln_k0 }
+        }
     }
 
     pub struct Channel {
@@ -122,6 +139,19 @@ mod panel {
         pub at: Grid,
         pub density: i64,
         pub bulk: i64,
+    }
+
+    /// ln K0 in millionths; 0 if refused.
+    pub struct Co2 {
+        pub refusal: u32,
+        pub ln_k0: i64,
+    }
+
+    impl Co2 {
+        /// In mol/(kg atm).
+        pub fn k0(&self) -> Option<f64> {
+            (self.refusal == 0).then(|| (self.ln_k0 as f64 / 1e6).exp())
+        }
     }
 
     pub struct Needle {
@@ -210,6 +240,15 @@ fn show_channel((name, report): (&str, Report)) {
     tell(c.refusal);
 }
 
+fn show_co2((name, report): (&str, Report)) {
+    let c = report.co2();
+    println!("co2 of {}: refusal {}, ln K0 {}", name, c.refusal, c.ln_k0);
+    match c.k0() {
+        None => println!("  {}: {}", c.refusal, panel::co2_words(c.refusal)),
+        Some(k0) => println!("  K0 is {:.6} mol/(kg atm)", k0),
+    }
+}
+
 fn show_needle(left: (&str, Report), right: (&str, Report)) {
     let n = panel::needle(left.1, right.1);
     println!("needle of {}, {}: refusal {}, densities {} {}, needle {}", left.0, right.0, n.refusal, n.left, n.right, n.value);
@@ -270,13 +309,16 @@ fn main() {
     let broken = ("broken", Report::Surface { salinity: f32::NAN, temperature: 7.5 });
     let hot = ("hot", Report::Surface { salinity: 34.25, temperature: 40.5 });
     let abyss = ("abyss", Report::Deep { salinity: 34.25, temperature: 7.5, pressure: 1_000.5 });
+    let frost = ("frost", Report::Surface { salinity: 34.25, temperature: -1.0 });
+    let blind = ("blind", Report::Deep { salinity: 34.25, temperature: 7.5, pressure: f32::NAN }); // the deep one's water, its depth not known
     // Records that gave no reading have a channel, and a place on a line, too.
     let cut = ("cut", Report::Cut);
     let unknown = ("unknown", Report::UnknownKind);
     let length = ("length", Report::WrongLength);
-    for each in [fjord, deep, none, broken, brine, hot, abyss, cut, unknown, length] {
-        show_channel(each);
-    }
+    let every = [fjord, deep, none, broken, brine, hot, abyss, frost, blind, cut, unknown, length];
+    every.into_iter().for_each(show_channel);
+    // The frost has a density and no ln K0; the abyss and the blind one, whose pressures are refused, have the deep one's ln K0 and no density.
+    every.into_iter().for_each(show_co2);
     show_needle(fjord, deep);
     show_needle(deep, fjord);
     show_needle(shallow, deep);

@@ -38,7 +38,7 @@ uint32_t warpsorrel_version(void);
 #define WARPSORREL_REFUSED_MISSING 1u      /* missing */
 #define WARPSORREL_REFUSED_NOT_FINITE 2u   /* a NaN or an infinity */
 #define WARPSORREL_REFUSED_SALINITY 3u     /* the salinity is not from 0 to 42 */
-#define WARPSORREL_REFUSED_TEMPERATURE 4u  /* the temperature is not from -2 to 40 degrees C */
+#define WARPSORREL_REFUSED_TEMPERATURE 4u  /* the temperature is not from -2 to 40 degrees C; for warpsorrel_co2: from 0 to 40 */
 #define WARPSORREL_REFUSED_PRESSURE 5u     /* the pressure is not from 0 to 1,000 bar */
 #define WARPSORREL_REFUSED_CUT 6u          /* the record is cut short */
 #define WARPSORREL_REFUSED_KIND 7u         /* the kind is none of 1, 2, 3 */
@@ -76,6 +76,12 @@ uint32_t warpsorrel_bulk(int64_t sigma, int64_t tau, int64_t pi);
  * the pressure. out gets sigma, tau, pi, the density and the bulk modulus; five noughts if refused. The density is within 0.0014 kg/m3 of the
  * published formula at the floats as they were sent, and within 0.0006 at sigma, tau, pi. */
 uint32_t warpsorrel_channel(uint32_t kind, float salinity, float temperature, float pressure, int64_t out[5]);
+
+/* How much carbon dioxide the water will hold: ln K0 of Weiss (1974). 0, or the refusal: 6, 7, 8 by the kind, 1 missing, 2 a NaN or an infinity
+ * in the salinity or the temperature, 3 a salinity that is not from 0 to 42, 4 a temperature that is not from 0 to 40 degrees C. The pressure is
+ * not read, of a deep report either: whatever it is, a NaN too, the answer is the same. out gets ln K0 in millionths, within 2 of the published
+ * equation at sigma and tau; 0 if refused. K0, in mol/(kg atm), is exp(*out / 1e6). */
+uint32_t warpsorrel_co2(uint32_t kind, float salinity, float temperature, float pressure, int64_t *out);
 
 /* 0, or 100 plus the left's refusal, otherwise 200 plus the right's. out gets the left density and the right density, each at its own pressure
  * (0 where that one is refused), and the needle: right minus left in 0.001 kg/m3, both waters at the greater of the two pressures, plus where the

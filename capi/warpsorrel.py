@@ -1,4 +1,4 @@
-"""Warpsorrel's panel: which of two waters is heavier, and by how much.
+"""Warpsorrel's panel: which of two waters is heavier, and by how much; and how much carbon dioxide a water will hold.
 
     from warpsorrel import Panel, Report
 
@@ -8,6 +8,12 @@
         print("no needle:", needle.refusal.reason)
     else:
         print("right minus left:", needle.value / 1000, "kg/m3")
+
+    co2 = panel.co2(Report.surface(28.5, 12.25))
+    if co2.refusal:
+        print("no K0:", co2.refusal.reason)
+    else:
+        print("K0:", math.exp(co2.value / 1e6), "mol/(kg atm)")
 
 The module loads libwarpsorrel.so, which capi/build makes, and needs Python 3.9 or later and nothing else. Every call answers every value: bad
 input is refused by number (Refusal), so that nothing has to be checked first. An exception is a fault of the program: a value that is no
@@ -36,7 +42,10 @@ from pathlib import Path
 from types import SimpleNamespace
 from typing import Any, NamedTuple, Optional, SupportsIndex, Union
 
-__all__ = ["VERSION", "LINE", "PAGE", "Stream", "Kind", "Refusal", "Report", "Channel", "Needle", "Side", "Pair", "Written", "LibraryError", "Panel"]
+__all__ = [
+    "VERSION", "LINE", "PAGE", "Stream", "Kind", "Refusal", "Co2Refusal", "Report", "Channel", "Co2", "Needle", "Side", "Pair", "Written",
+    "LibraryError", "Panel",
+]
 
 VERSION = 2
 """The version of the C ABI that this module was written for."""
@@ -129,13 +138,32 @@ _REASONS = {
 }
 
 
+class Co2Refusal(IntEnum):
+    """Why a ln K0 is refused: Refusal's numbers, and its words but for TEMPERATURE, whose range is another one here. The pressure is not read, so
+    that it refuses nothing."""
+
+    NONE = 0
+    MISSING = 1
+    NOT_FINITE = 2
+    SALINITY = 3
+    TEMPERATURE = 4
+    CUT = 6
+    KIND = 7
+    LENGTH = 8
+
+    @property
+    def reason(self) -> str:
+        """The refusal in words."""
+        return "the temperature is not from 0 to 40 degrees C" if self is Co2Refusal.TEMPERATURE else Refusal(self).reason
+
+
 class Report(NamedTuple):
     """What a probe says, or what stands for a record that gave no reading: `Report(Kind.CUT)`.
 
     kind         a Kind; every other number is refused by 7
     salinity     practical salinity, accepted from 0 to 42
-    temperature  degrees C, accepted from -2 to 40
-    pressure     bar above the atmosphere, accepted from 0 to 1,000; read where the kind is DEEP
+    temperature  degrees C, accepted from -2 to 40; by Panel.co2 from 0 to 40
+    pressure     bar above the atmosphere, accepted from 0 to 1,000; read where the kind is DEEP, and not by Panel.co2
     """
 
     kind: int
@@ -173,6 +201,17 @@ class Channel(NamedTuple):
     pi: int
     density: int
     bulk: int
+
+
+class Co2(NamedTuple):
+    """How much carbon dioxide a water will hold.
+
+    value  ln K0 of Weiss (1974) in millionths, within 2 of the published equation at sigma and tau; K0, in mol/(kg atm), is
+           math.exp(value / 1e6). 0 if refused
+    """
+
+    refusal: Co2Refusal
+    value: int
 
 
 class Needle(NamedTuple):
@@ -228,6 +267,7 @@ _CALLS: dict[str, tuple[Any, ...]] = {
     "density": (c_uint32, c_int64, c_int64, c_int64),
     "bulk": (c_uint32, c_int64, c_int64, c_int64),
     "channel": (c_uint32, *_REPORT, POINTER(c_int64 * 5)),
+    "co2": (c_uint32, *_REPORT, POINTER(c_int64)),
     "needle": (c_uint32, *_REPORT, *_REPORT, POINTER(c_int64 * 3)),
     "recorder": (c_float, c_uint32),
     "line": (c_uint32, c_uint32, *_REPORT, *_REPORT, *_BYTES, POINTER(c_size_t)),
@@ -343,6 +383,12 @@ class Panel:
         out = (c_int64 * 5)()
         refusal = self._calls.channel(*_parts(report), out)
         return Channel(Refusal(refusal), *out)
+
+    def co2(self, report: Report) -> Co2:
+        """How much carbon dioxide the water of one report will hold. Its pressure is not read."""
+        out = c_int64()
+        refusal = self._calls.co2(*_parts(report), ctypes.byref(out))
+        return Co2(Co2Refusal(refusal), out.value)
 
     def needle(self, left: Report, right: Report) -> Needle:
         """Two reports compared: right minus left in 0.001 kg/m3, both waters at the greater of the two pressures."""

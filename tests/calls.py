@@ -4,8 +4,9 @@
     python3 tests/calls.py COMMAND ...      the command that starts the driver (tests/driver.c)
 
 The version; pairs, pair and page on the hard streams of tests/streams.py and on longer ones; lines of every kind of entry, number and room,
-each with each; every kind of report; special floats, and waters at two depths, in every rounding mode, with denormals kept and flushed. That
-nothing else is written is the driver's to see: it ends then, which counts as a difference.
+each with each; every kind of report; ln K0 with every special float in every place, each salinity with each temperature; special floats, waters
+whose ln K0 hangs on the last unit, and waters at two depths, in every rounding mode, with denormals kept and flushed. That nothing else is
+written is the driver's to see: it ends then, which counts as a difference.
 """
 import random
 import struct
@@ -13,13 +14,13 @@ import subprocess
 import sys
 from collections import Counter
 from concurrent.futures import ThreadPoolExecutor
-from itertools import repeat
+from itertools import product, repeat
 from typing import NamedTuple
 
 import model
-from model import CUT, LENGTH, LONGEST_PAGE, bits_of, channel, needle
-from streams import (ALL_KINDS, DEEP, HUGE, INFINITIES, LONGEST, MISSING, NANS, PLAIN, SURFACE, TINY, ZEROS, any_record, covered, depth_pairs,
-                     halves, hard_streams, made, record_of, specials)
+from model import CUT, LENGTH, LONGEST_PAGE, bits_of, channel, co2, needle
+from streams import (ALL_KINDS, DEEP, HUGE, INFINITIES, LONGEST, MISSING, NANS, PLAIN, SURFACE, TINY, ZEROS, any_record, co2_reports, covered,
+                     depth_pairs, halves, hard_streams, made, record_of, specials)
 
 VERSION = 2
 SHORTEST_ROOM = 32  # for a line
@@ -87,6 +88,10 @@ def line_call(number, left, right, room):
 
 def channel_call(report):
     return Call("channel", asked(b"c", "4I", *report), words(*channel(*report)))
+
+
+def co2_call(report):
+    return Call("co2", asked(b"o", "4I", *report), words(*co2(*report)))
 
 
 def needle_call(left, right):
@@ -175,6 +180,20 @@ def kind_calls(rng):
     """Every kind that a record can have, those round about the kinds of records that gave no reading, and some others."""
     for kind in [*range(65_800), *(rng.randrange(2**32) for _ in range(5_000)), *(2**k + d for k in range(17, 32) for d in (-1, 0, 1, 2, 3))]:
         yield channel_call((kind, *PLAIN))
+        yield co2_call((kind, *PLAIN))
+
+
+# ---- ln K0
+
+
+def co2_calls(rng):
+    """The waters that hang on the last unit; each special salinity with each special temperature and some pressure; each special pressure; every
+    entry; floats of any bits."""
+    salinities, temperatures, pressures = ([*dict.fromkeys(specials(place))] for place in range(3))
+    yield from map(co2_call, [*co2_reports(), *ENTRIES])
+    yield from (co2_call((rng.choice((1, 2)), s, t, rng.choice(pressures))) for s, t in product(salinities, temperatures))
+    yield from (co2_call((kind, *PLAIN[:2], p)) for kind in (1, 2) for p in pressures)
+    yield from (co2_call((rng.choice((1, 2, 3)), *(rng.getrandbits(32) for _ in range(3)))) for _ in range(3_000))
 
 
 # ---- floating-point modes
@@ -190,6 +209,7 @@ def mode_reports(rng):
         for bits in dict.fromkeys(specials(place) + rng.sample(halves(place, rng), 100)):
             floats = [*PLAIN[:place], bits, *PLAIN[place + 1 :]]
             yield from ((kind, *floats) for kind in ((1, 2) if place < 2 else (1,)))
+    yield from co2_reports()
     hardest = NANS + INFINITIES + ZEROS + TINY + HUGE
     yield from ((1, *(rng.choice(hardest if rng.random() < 0.5 else specials(i)) for i in range(3))) for _ in range(400))
 
@@ -198,7 +218,7 @@ def mode_calls(reports):
     """A batch for each mode. The recorder divides in the mode that it finds, so it is held to the model to nearest alone."""
     plain = (1, *PLAIN)
     records = [record_of(*report) for report in reports]
-    calls = [version_call(), *(channel_call(report) for report in reports)]
+    calls = [version_call(), *(channel_call(report) for report in reports), *(co2_call(report) for report in reports)]
     for left, right in [*zip(reports, repeat(plain)), *zip(repeat(plain), reports), *depth_pairs()]:
         calls += [needle_call(left, right), line_call(9_999, left, right, SHORTEST_ROOM)]
     for stream in (r + DEEP for r in records):
@@ -213,7 +233,7 @@ def mode_calls(reports):
 
 # ---- the driver
 
-SIZES = {"version": 4, "stream": 0, "pairs": 8, "pair": 72, "channel": 48, "needle": 32, "recorder": 4, "mode": 4}  # of the answers
+SIZES = {"version": 4, "stream": 0, "pairs": 8, "pair": 72, "channel": 48, "co2": 16, "needle": 32, "recorder": 4, "mode": 4}  # of the answers
 
 
 def taken(what, answers, at):
@@ -277,6 +297,7 @@ def every_batch():
     yield from batches(stream_calls([*every, *long_streams(rng)]))
     yield from batches(line_calls(ENTRIES))
     yield list(kind_calls(rng))
+    yield list(co2_calls(rng))
     yield from mode_calls(list(mode_reports(rng)))
 
 
@@ -296,7 +317,7 @@ def main():
         print(text)
     print(
         f"calls: {len(streams)} streams, {counts['pair']} pairs, {counts['line']} lines, {counts['page']} pages, {counts['channel']} readings,"
-        f" {counts['needle']} needles, some in {len(MODES)} float modes, {len(told)} different"
+        f" {counts['co2']} of ln K0, {counts['needle']} needles, some in {len(MODES)} float modes, {len(told)} different"
     )
     sys.exit(1 if told else 0)
 

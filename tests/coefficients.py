@@ -1,5 +1,5 @@
 #!/usr/bin/env python3
-"""Holds the 41 coefficients, to the last unit, to what is printed.
+"""Holds the 41 coefficients of the density and the 6 of ln K0, to the last unit, to what is printed.
 
     python3 tests/coefficients.py
 
@@ -7,6 +7,9 @@ The definition (crates/sea/specs/Table.antt) and the code (ROWS in crates/sea/sr
 points. A coefficient that is wrong in both, below its printed digits, would pass all that. So both are read here and compared,
 exactly, with SPEC's decimals and with UNESCO's, each typed in on its own. Then both are changed in memory, one place at a
 time, to see that the comparison would notice.
+
+Of ln K0 the definition (crates/carbon/specs/Weiss.antt) and the equation that it is proved to be near (crates/weiss/specs/Equation.antt) are read
+so, and compared with the handbook's decimals. The code is proved to compute the definition.
 """
 import itertools
 import re
@@ -17,6 +20,8 @@ from pathlib import Path
 ROOT = Path(__file__).resolve().parent.parent
 TABLE = ROOT / "crates/sea/specs/Table.antt"
 CODE = ROOT / "crates/sea/src/lib.rt"
+WEISS = ROOT / "crates/carbon/specs/Weiss.antt"
+EQUATION = ROOT / "crates/weiss/specs/Equation.antt"
 
 # SPEC, on the common scale: u is degrees C/100, v is salinity/100, q is bar/1,000; lowest power of u first.
 DOCUMENT = """
@@ -50,6 +55,10 @@ Ar 3 1 1.91075e-4
 Bw 0 2 8.50935e-5 -6.12293e-6 5.2787e-8
 Bs 2 2 -9.9348e-7 2.0816e-8 9.1697e-10
 """
+
+# Weiss (1974), as the handbook of CO2 measurements prints it in equation (30): with 100/T, alone, with ln(T/100); with S times (T/100) to the powers
+# 0, 1, 2.
+HANDBOOK = "93.4517 -60.2409 23.3585 0.023517 -0.023656 0.0047036".split()
 
 NAMES = "Dw Ds Dr Dss Kw Ks Kr Aw As Ar Bw Bs".split()
 LENGTHS = [6, 5, 3, 1, 5, 4, 3, 4, 3, 1, 3, 3]
@@ -250,12 +259,118 @@ def changed_rows(table, code):
         yield f"{NAMES[a]} and {NAMES[b]} swapped in the table of tables", table.replace(order, " ∷ ".join(other)), code, set()
 
 
+# ---- ln K0: the lines that have its coefficients, each with its digits <d>, the power of ten beside them <p> and, where it has one, its sign <s>
+
+DEFINITION = """
+byCold n = <d0> * 10 ^ <p0> / n
+fine σ n = <s1> (<d1> * 10 ^ <p1>) +ℤ pos (byCold n) +ℤ pos (byLog n) +ℤ bySalt σ n
+byLog n = <d2> * lnT n / 10 ^ <p2>
+salts = <s3> (<d3> * 10 ^ <p3>) ∷ <s4> (<d4> * 10 ^ <p4>) ∷ <s5> (<d5> * 10 ^ <p5>) ∷ []
+"""
+IN_FRACTIONS = """
+    over <d0> (10 ^ <p0>) ⊗ over 100_000 n <s1> over <d1> (10 ^ <p1>) ⊕ over <d2> (10 ^ <p2>) ⊗ lnF j k n ⊕ over σ 1_000 ⊗ saltF n
+saltF n = units (10 ^ <p3>) (<s3> <d3>) ⊕ hundreds n ⊗ (units (10 ^ <p4>) (<s4> <d4>) ⊕ hundreds n ⊗ units (10 ^ <p5>) (<s5> <d5>))
+"""
+FORMS = {"d": "[0-9]+(?:_[0-9]+)?", "p": "[0-9]+", "s": "pos|neg|⊕|⊖"}
+TURNED = {"pos": "neg", "neg": "pos", "⊕": "⊖", "⊖": "⊕"}
+# In the definition a coefficient stands on a unit of so many places, which the power takes from: 10^-11, with 100/T as 10^5 over T in 0.001 K and,
+# for S/100, a hundred times what is printed. Elsewhere the power is the number of places.
+UNITS = {("Weiss.antt", 0): 16, ("Weiss.antt", 1): 11, ("Weiss.antt", 3): 13, ("Weiss.antt", 4): 13, ("Weiss.antt", 5): 13}
+LINES = {"Weiss.antt": DEFINITION.split("\n")[1:-1], "Equation.antt": IN_FRACTIONS.split("\n")[1:-1]}
+
+
+def places_in(source, text):
+    """Where digits, powers and signs stand in the text."""
+    text, found = blanked(text, "--"), {}
+    for line in LINES[source]:
+        pattern = re.sub(r"<([dps])([0-9])>", lambda part: f"(?P<{part[1]}{part[2]}>{FORMS[part[1]]})", re.escape(line))
+        matches = list(re.finditer(f"^{pattern}$", text, re.M))
+        need(len(matches) == 1, f"{source}: no line such as {line.strip()}")
+        found.update((name, matches[0].span(name)) for name in matches[0].groupdict())
+    return found
+
+
+def decimals_in(source, text):
+    """The six coefficients as a source has them, in the form that is printed."""
+    spans = places_in(source, text)
+    words = {name: text[slice(*span)] for name, span in spans.items()}
+    for i in range(len(HANDBOOK)):
+        digits, power, minus = words[f"d{i}"], int(words[f"p{i}"]), words.get(f"s{i}") in ("neg", "⊖")
+        places = UNITS[source, i] - power if (source, i) in UNITS else power
+        need(0 < places < 20, f"{source}: a power of ten that fits no decimal")
+        number = digits.replace("_", "").rjust(places + 1, "0")
+        # _ is where the point is
+        elsewhere = "_" in digits and len(digits.split("_")[1]) != places
+        yield f"{'-' if minus else ''}{number[:-places]}.{number[-places:]}{' with its point elsewhere' if elsewhere else ''}"
+
+
+def weiss_differences(texts):
+    """What is not as printed: (source, which), or a source that cannot be read."""
+    wrong = set()
+    for source, text in texts.items():
+        try:
+            wrong |= {(source, i) for i, (said, printed) in enumerate(zip(decimals_in(source, text), HANDBOOK)) if said != printed}
+        except Unreadable as why:
+            wrong.add((source, str(why)))
+    return wrong
+
+
+def weiss_changes(texts):
+    """In both sources at once: each coefficient with its last digit one more and one less, a nought more, another power, its sign turned; two of
+    them swapped; each line lost."""
+    spans = {source: places_in(source, text) for source, text in texts.items()}
+
+    def changed(change):
+        """change: from a source to other words for some of its places."""
+        return {source: put(text, [(spans[source][name], words) for name, words in change(source).items()]) for source, text in texts.items()}
+
+    def said(source, name):
+        return texts[source][slice(*spans[source][name])]
+
+    for i in range(len(HANDBOOK)):
+        digits, power, sign = f"d{i}", f"p{i}", f"s{i}"
+        for step in (1, -1):
+            def stepped(source):
+                parts = said(source, digits).split("_")
+                return {digits: "_".join([*parts[:-1], str(int(parts[-1]) + step)])}
+
+            yield f"{HANDBOOK[i]} a step of {step} away", changed(stepped), {i}
+            yield f"{HANDBOOK[i]} with another power", changed(lambda source: {power: str(int(said(source, power)) + step)}), {i}
+        yield f"{HANDBOOK[i]} with a nought more", changed(lambda source: {digits: said(source, digits) + "0"}), {i}
+        if all(sign in spans[source] for source in texts):
+            yield f"{HANDBOOK[i]} with its sign turned", changed(lambda source: {sign: TURNED[said(source, sign)]}), {i}
+        for j in range(i):
+            other = f"d{j}"
+            swapped = changed(lambda source: {digits: said(source, other), other: said(source, digits)})
+            yield f"{HANDBOOK[i]} and {HANDBOOK[j]} swapped", swapped, {i, j}
+    for a, b in zip(LINES["Weiss.antt"], itertools.cycle(LINES["Equation.antt"])):
+        first = {source: re.escape(line.split("<")[0]) for source, line in zip(LINES, (a, b))}
+        yield f"no {a}", {source: re.sub(f"^{first[source]}.*$", "", text, flags=re.M) for source, text in texts.items()}, set()
+
+
+def hold_weiss():
+    """Lines for what is wrong, how many changes were tried, and those that were not seen."""
+    texts = {"Weiss.antt": WEISS.read_text(encoding="utf-8"), "Equation.antt": EQUATION.read_text(encoding="utf-8")}
+    wrong = [f"{source}: {HANDBOOK[which]} is not so" if which in range(6) else which for source, which in weiss_differences(texts)]
+    count, missed = 0, []
+    for name, others, coefficients in [] if wrong else weiss_changes(texts):
+        assert all(others[source] != texts[source] for source in texts), f"{name}: nothing was changed"
+        count += 1
+        seen = weiss_differences(others)
+        if not {(source, i) for source in texts for i in coefficients} <= seen or {source for source, _ in seen} != set(texts):
+            missed.append(name)
+    return wrong, count, missed
+
+
 def main():
     table, code = TABLE.read_text(encoding="utf-8"), CODE.read_text(encoding="utf-8")
     wrong = differences(table, code)
     for source, other, row, i in sorted(wrong)[:10]:
         print(f"coefficients: {source}: {row} {i}: not as in {other}" if row else f"coefficients: {source}: {other}")
-    if wrong:
+    not_printed, weiss_count, weiss_missed = hold_weiss()
+    for line in not_printed:
+        print("coefficients:", line)
+    if wrong or not_printed:
         sys.exit(1)
 
     count, missed = 0, []
@@ -268,11 +383,13 @@ def main():
         seen = differences(other_table, other_code)
         if not expected <= seen or {source for source, *_ in seen} != changed:
             missed.append(name)
-    for name in missed[:10]:
+    for name in (missed + weiss_missed)[:10]:
         print("coefficients: not seen:", name)
     total = sum(LENGTHS)
     print(f"coefficients: {total} of {total} as printed, in the definition and in the code; {count} changes, {count - len(missed)} seen")
-    sys.exit(1 if missed else 0)
+    seen = weiss_count - len(weiss_missed)
+    print(f"coefficients: ln K0: 6 of 6 as printed, in the definition and in the equation; {weiss_count} changes, {seen} seen")
+    sys.exit(1 if missed or weiss_missed else 0)
 
 
 if __name__ == "__main__":

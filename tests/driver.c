@@ -153,6 +153,15 @@ static void channel(void) {
     give_lent(refusal, words, 7);
 }
 
+/* o report: refusal, ln K0 in millionths (int64 each) */
+static void co2(void) {
+    struct report r = need_report();
+    int64_t words[3];
+    lend(words, 3);
+    uint32_t refusal = warpsorrel_co2(r.kind, r.salinity, r.temperature, r.pressure, words + 1);
+    give_lent(refusal, words, 3);
+}
+
 /* n left-report right-report: refusal, left density, right density, needle (int64 each) */
 static void needle(void) {
     struct report l = need_report();
@@ -246,6 +255,7 @@ int main(void) {
         case 'v': version(); break;
         case 'g': grid_reading(); break;
         case 'c': channel(); break;
+        case 'o': co2(); break;
         case 'n': needle(); break;
         case 'r': recorder(); break;
         case 's': take_stream(); break;

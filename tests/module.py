@@ -27,7 +27,7 @@ FORMAT = (ROOT / "docs" / "FORMAT.md").read_text("utf-8")
 
 sys.path.insert(0, str(MODULE.parent))
 import warpsorrel  # noqa: E402
-from warpsorrel import Channel, Kind, LibraryError, Needle, Pair, Panel, Refusal, Report, Side, Written  # noqa: E402
+from warpsorrel import Channel, Co2, Co2Refusal, Kind, LibraryError, Needle, Pair, Panel, Refusal, Report, Side, Written  # noqa: E402
 
 NOTHING = "nothing raised"
 held, wrong = 0, []
@@ -68,6 +68,9 @@ WORDS = {
     7: "the kind is none of 1, 2, 3",
     8: "the length is not the kind's own",
 }
+# Of ln K0: the temperature has another range, and the pressure, which is not read, refuses nothing.
+CO2_WORDS = {**WORDS, 4: "the temperature is not from 0 to 40 degrees C"}
+del CO2_WORDS[5]
 
 
 def words():
@@ -76,7 +79,9 @@ def words():
     hold("the words of every refusal", {**others, **WORDS, **sides}, {int(r): r.reason for r in Refusal})
     hold("the names of a needle's", [], [r for r in Refusal if r.side and r.name != f"{r.side.upper()}_{r.cause.name}"])
     hold("the sides", {0: None, 1: "left", 2: "right"}, {r // 100: r.side for r in Refusal})
-    hold("what is true", [Refusal.NONE], [r for r in Refusal if not r])
+    hold("what is true", [Refusal.NONE, Co2Refusal.NONE], [r for r in (*Refusal, *Co2Refusal) if not r])
+    hold("the words of every refusal of ln K0", {0: "not refused", **CO2_WORDS}, {int(r): r.reason for r in Co2Refusal})
+    hold("the names of a ln K0's", [r.name for r in Co2Refusal], [Refusal(r).name for r in Co2Refusal])
 
 
 # ---- the header, the module and FORMAT
@@ -92,10 +97,14 @@ def macros():
     hold("the header's sizes are the module's", {name: getattr(warpsorrel, name) for name in sizes}, sizes)
     hold("the header's kinds are the module's", {k.name: int(k) for k in Kind}, found)
     beside = dict(re.findall(r"^#define WARPSORREL_REFUSED_(\w+) \d+u +/\* (.+) \*/$", HEADER, re.M))
-    hold("the header's words are the module's", {name: Refusal[name].reason for name in refused}, beside)
+    words = {name: Refusal[name].reason for name in refused}
+    words["TEMPERATURE"] += "; for warpsorrel_co2: from 0 to 40"
+    hold("the header's words are the module's", words, beside)
+    hold("and those of ln K0", "the temperature is not from 0 to 40 degrees C", Co2Refusal.TEMPERATURE.reason)
 
 
-TYPES = {"uint32_t": c_uint32, "int64_t": c_int64, "float": c_float, "size_t": c_size_t, "uint8_t *": c_char_p, "size_t *": POINTER(c_size_t)}
+TYPES = {"uint32_t": c_uint32, "int64_t": c_int64, "float": c_float, "size_t": c_size_t}
+TYPES |= {"uint8_t *": c_char_p, "size_t *": POINTER(c_size_t), "int64_t *": POINTER(c_int64)}
 
 
 def type_of(parameter):
@@ -119,8 +128,9 @@ def format_page():
     refusals = {int(row[0]): row[1] for row in rows if len(row) == 3}
     hold("FORMAT's refusals", sorted(WORDS), sorted(refusals))
     hold("the order of FORMAT's refusals is the header's", True, ", ".join(map(str, refusals)) in HEADER)
-    # FORMAT says of 6 just what is too short, and leaves the units out.
-    differ = {n: when for n, when in refusals.items() if when not in WORDS[n] and WORDS[n] not in when}
+    # FORMAT says of 6 just what is too short, and leaves the units out; what it says of ln K0 alone stands after a semicolon.
+    before = {n: when.split(";")[0] for n, when in refusals.items()}
+    differ = {n: when for n, when in before.items() if when not in WORDS[n] and WORDS[n] not in when}
     hold("FORMAT's words", {6: "under 4 bytes are left for the head, or under the stated length for the body"}, differ)
 
 
@@ -144,6 +154,9 @@ def answers(panel):
     same("density", 1_062_538, panel.density(35_000, 25_000, 100_000))
     same("bulk", 2_710_894, panel.bulk(35_000, 25_000, 100_000))
     same("channel", Channel(Refusal.NONE, 34_250, 7_500, 400, 1_026_941, 2_242_612), panel.channel(deep))
+    same("co2", [Co2(Co2Refusal.NONE, -3_162_245), Co2(Co2Refusal.NONE, -3_037_603)], [panel.co2(fjord), panel.co2(deep)])
+    same("co2, the handbook's water", Co2(Co2Refusal.NONE, -3_561_652), panel.co2(Report.surface(35, 25)))
+    same("co2, from minus zero to 40 degrees C", [-2_556_496, -3_920_767], [panel.co2(Report.surface(s, t)).value for s, t in ((0, -0.0), (42, 40))])
     same("needle", Needle(Refusal.NONE, 1_021_502, 1_026_941, 5_258), panel.needle(fjord, deep))
     same("needle, one water at two depths", Needle(Refusal.NONE, 1_026_941, 1_026_776, 0), panel.needle(deep, Report.deep(34.25, 7.5, 0.4)))
     same("needle, refused", Needle(Refusal.RIGHT_SALINITY, 1_021_502, 0, 0), panel.needle(fjord, brine))
@@ -170,6 +183,13 @@ def answers(panel):
     for number, report in enumerate(reports, 1):
         refused = [panel.channel(report).refusal, panel.needle(report, none).refusal, panel.needle(deep, report).refusal]
         same(f"refusal {number}", [Refusal(number), Refusal(100 + number), Refusal(200 + number)], refused)
+        of_co2 = panel.co2(report)
+        same(f"refusal {number} of ln K0", Co2(Co2Refusal(0), -2_953_995) if number == 5 else Co2(Co2Refusal(number), 0), of_co2)
+    for pressure in (float("nan"), float("inf"), -1, 1_001, 1e39):
+        report = Report.deep(34.25, 7.5, pressure)
+        same(f"a pressure of {pressure}", [True, Co2(Co2Refusal.NONE, -3_037_603)], [bool(panel.channel(report).refusal), panel.co2(report)])
+    frost = Report.surface(34.25, -1)
+    same("below 0 degrees C", [Refusal.NONE, Co2(Co2Refusal.TEMPERATURE, 0)], [panel.channel(frost).refusal, panel.co2(frost)])
     same("a float too large for 32 bits", Refusal.NOT_FINITE, panel.channel(Report.surface(1e39, 5)).refusal)
     same("every other kind", Refusal.KIND, panel.channel(Report(2**32 - 1, 35, 5, 0)).refusal)
 
@@ -184,6 +204,7 @@ def faults(panel):
         ("tau", least - 1, (least, most), lambda: panel.density(0, least - 1, 0)),
         ("pi", 2**64, (least, most), lambda: panel.bulk(0, 0, 2**64)),
         ("kind", 2**32 + 1, (0, 2**32 - 1), lambda: panel.channel(Report(2**32 + 1, 35, 5, 0))),
+        ("kind", -1, (0, 2**32 - 1), lambda: panel.co2(Report(-1, 35, 5, 0))),
         ("shown", -1, (0, 2**32 - 1), lambda: panel.recorder(-1)),
         ("number", 2**32 + 1, (0, 2**32 - 1), lambda: panel.line(2**32 + 1, deep, deep)),
         ("before", -1, (0, 2**64 - 1), lambda: panel.pair(b"", -1)),
@@ -192,6 +213,7 @@ def faults(panel):
         hold(what, says, raised(OverflowError, call))
     for what, call in (
         ("a salinity that is text", lambda: panel.channel(Report.surface("35", 5))),
+        ("a temperature that is text", lambda: panel.co2(Report.surface(35, "5"))),
         ("a grid number with a point", lambda: panel.refusal(35.0, 5, 0)),
         ("a stream that is text", lambda: panel.page("text")),
         ("a stream that is a number", lambda: panel.pairs(40)),

@@ -6,6 +6,7 @@
 #include "warpsorrel.h"
 
 __typeof__(warpsorrel_channel) __real_warpsorrel_channel, __wrap_warpsorrel_channel;
+__typeof__(warpsorrel_co2) __real_warpsorrel_co2, __wrap_warpsorrel_co2;
 __typeof__(warpsorrel_needle) __real_warpsorrel_needle, __wrap_warpsorrel_needle;
 __typeof__(warpsorrel_recorder) __real_warpsorrel_recorder, __wrap_warpsorrel_recorder;
 __typeof__(warpsorrel_line) __real_warpsorrel_line, __wrap_warpsorrel_line;
@@ -48,6 +49,99 @@ float __wrap_warpsorrel_recorder(uint32_t shown) {
     if (has("recorder: ends one early") && shown == 16383999) return 0;
     if (has("recorder: 0 where denormals are flushed") && flushing()) return 0;
     return __real_warpsorrel_recorder(shown);
+}
+
+/* ---- ln K0: by the definition once more, with a slip */
+
+typedef __int128 whole;
+
+static whole over(whole a, whole b) {
+    whole q = a / b;
+    return q - (a % b < 0);
+}
+
+static whole odd_series(whole x, whole y, int terms) {
+    whole power = (whole)100000000000 * x / y, sum = 0;
+    for (int k = 0; k < terms; k++) {
+        sum += power / (2 * k + 1);
+        power = power * x * x / (y * y);
+    }
+    return sum;
+}
+
+static whole product(whole h, whole x) {
+    return has("ln K0: a scaled product rounded towards zero") ? h * x / 100000 : over(h * x, 100000);
+}
+
+static int64_t ln_k0(int64_t sigma, int64_t tau) {
+    whole n = tau + (has("ln K0: 273.16 for 273.15") ? 273160 : 273150);
+    whole series = 2 * odd_series(n < 300000 ? 300000 - n : n - 300000, n + 300000, has("ln K0: 3 terms of the series") ? 3 : 4);
+    whole ln3 = has("ln K0: ln 3 to its last digit") ? 109861228867 : 2 * odd_series(1, 2, has("ln K0: 15 terms for ln 3") ? 15 : 16);
+    whole log = n < 300000 && !has("ln K0: the series added below 300 K") ? ln3 - series : ln3 + series;
+    whole middle = has("ln K0: the sign of 0.023656 turned") ? 236560000000 : -236560000000;
+    whole row = 235170000000 + product(middle + product(47036000000, n), n);
+    whole fine = (whole)934517000000000000 / n - 6024090000000 + 233585 * log / 10000 + product(row, sigma);
+    if (has("ln K0: 100/T rounded to the nearest")) fine += 2 * ((whole)934517000000000000 % n) >= n;
+    if (has("ln K0: cut and not rounded")) fine -= 50000;
+    if (has("ln K0: halves downward")) fine -= 1;
+    return (int64_t)over(fine + 50000, 100000);
+}
+
+static uint32_t bits_of(float x) {
+    uint32_t bits;
+    memcpy(&bits, &x, sizeof bits);
+    return bits;
+}
+
+static int is_finite(float x) {
+    return (bits_of(x) >> 23 & 255) != 255;
+}
+
+static int outside(float x, float most) {
+    return is_finite(x) && !(x >= 0 && x <= most);
+}
+
+uint32_t __wrap_warpsorrel_co2(uint32_t kind, float salinity, float temperature, float pressure, int64_t *out) {
+    int64_t was = *out, at[5];
+    if (has("co2: a denormal salinity flushed")) salinity *= one;
+    if (has("co2: a denormal temperature flushed")) temperature *= one;
+    if (has("co2: the temperature rounded in the mode there is") && temperature > 1) temperature = temperature + little;
+    if (has("co2: the rounding mode changed")) _mm_setcsr(_mm_getcsr() | 0x6000);
+    if (has("co2: the kind in 16 bits")) kind = (uint16_t)kind;
+    if (has("co2: a cut record refused by 7") && kind == WARPSORREL_CUT) kind = WARPSORREL_UNKNOWN;
+    if (has("co2: a wrong length refused by 6") && kind == WARPSORREL_LENGTH) kind = WARPSORREL_CUT;
+    uint32_t right = __real_warpsorrel_co2(kind, salinity, temperature, pressure, out), refusal = right;
+    uint32_t dense = __real_warpsorrel_channel(kind, salinity, temperature, pressure, at), bits = bits_of(temperature);
+    int is_deep = kind == WARPSORREL_DEEP, is_read = is_deep || kind == WARPSORREL_SURFACE;
+
+    /* refused, or not */
+    if (has("co2: 2 for a NaN in the pressure") && is_deep && pressure != pressure) refusal = 2;
+    if (has("co2: 2 for an infinite pressure") && is_deep && !is_finite(pressure) && pressure == pressure) refusal = 2;
+    if (has("co2: 2 for a NaN in the pressure that a surface has not") && kind == WARPSORREL_SURFACE && pressure != pressure) refusal = 2;
+    if (has("co2: 5 for a pressure outside its range") && dense == 5) refusal = 5;
+    if (has("co2: refused as the density is")) refusal = dense;
+    if (has("co2: 4 for minus zero") && !right && bits == 0x80000000) refusal = 4;
+    if (has("co2: 4 for 40 degrees C") && !right && bits == 0x42200000) refusal = 4;
+    if (has("co2: 3 for a salinity of 42") && !right && bits_of(salinity) == 0x42280000) refusal = 3;
+    if (has("co2: 3 before 2") && right == 2 && outside(salinity, 42)) refusal = 3;
+    if (has("co2: 4 before 3") && right == 3 && outside(temperature, 40)) refusal = 4;
+    if (is_read) __real_warpsorrel_channel(WARPSORREL_SURFACE, salinity, temperature, 0, at);
+    if (right == 4 && !outside(-temperature, 2)) {
+        if (has("co2: 4 only below -2 degrees C")) refusal = 0;
+        if (has("co2: 4 only where the grid number is below 0") && at[1] == 0) refusal = 0;
+        if (has("co2: no 4 for the denormal next to 0") && bits == 0x80000001) refusal = 0;
+    }
+
+    /* the value */
+    if (refusal != right) *out = refusal ? 0 : ln_k0(at[0], at[1]);
+    if (strncmp(fault, "ln K0: ", 7) == 0 && !refusal) *out = ln_k0(at[0], at[1]);
+    if (has("co2: the value's sign turned")) *out = -*out;
+    if (has("co2: refused, and the value not written") && refusal) *out = was;
+    if (has("co2: refused, and the value left") && refusal && is_read) *out = ln_k0(35000, 5000);
+    if (has("co2: refused by 4, and the value left") && refusal == 4 && !outside(-temperature, 2)) *out = ln_k0(at[0], at[1]);
+    if (has("co2: the word past the value")) out[1] = 0;
+    if (has("co2: the word before the value")) out[-1] = 0;
+    return refusal;
 }
 
 /* ---- needles: sigma, tau, pi, density and bulk modulus of two accepted readings */

@@ -18,9 +18,9 @@ from concurrent.futures import ThreadPoolExecutor
 from pathlib import Path
 
 import model
-from model import EXAMPLE
+from model import EXAMPLE, bits_of
 from programs import PATIENCE, ROOT, SAMPLE, Started, block, pipe_for_64k
-from streams import ALL_KINDS, LONGEST, MISSING
+from streams import ALL_KINDS, LONGEST, MISSING, NANS, PLAIN, deep, surface
 
 RUN = ROOT / "run"
 PAGES = {"sheet": model.page, "details": model.details}
@@ -146,6 +146,9 @@ def texts(tries, room):
         Path(room, name).write_bytes(TEXT)
         tries.run(f"text {name}", 0, model.page(stream), [name], cwd=room)
         tries.run(f"details of text {name}", 0, model.details(stream), ["details", name], cwd=room)
+    Path(room, "alone.txt").write_bytes(b"deep 35 5 nan\nsurface 35 -1\n")
+    alone = deep(*PLAIN[:2], NANS[0]) + surface(PLAIN[0], bits_of(-1))
+    tries.run("a reading with ln K0 alone, and one with all but that", 0, model.details(alone), ["details", "alone.txt"], cwd=room)
     written(Path(room, "pipe.txt"), TEXT.replace(b"\n", b"\r\n"))
     tries.run("text from a pipe with a name", 0, model.page(stream), ["pipe.txt"], cwd=room)
     for text, status, page, says in [

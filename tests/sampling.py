@@ -9,6 +9,9 @@ papers print. A needle is held to the formula's difference with both waters at t
 
 It is asked twice. At the reading put on the grid, where floats only carry grid numbers: its root is tried at both ends that the panel's
 whole root leaves open, and at the true root to 40 digits. And at the reading as sent, at the exact values of its floats: there at the true root.
+
+ln K0 is held to the equation of Weiss (1974), as the handbook of CO2 measurements prints it, the logarithm being a sum of many more terms than the
+panel's and that sum with more than all the terms that are left out; on the grid, and measured as sent.
 """
 import random
 import struct
@@ -17,7 +20,7 @@ import sys
 from fractions import Fraction
 from functools import lru_cache
 from itertools import product
-from math import isqrt
+from math import isqrt, lcm
 
 SALINITIES, TEMPERATURES, PRESSURES = BOXES = (0, 42_000), (-2_000, 40_000), (0, 100_000)
 STEPS = 1_000, 1_000, 100  # grid numbers to the unit
@@ -451,6 +454,110 @@ def as_sent(command, rng, readings):
     )
 
 
+# ---- how much carbon dioxide a water will hold
+
+# The handbook's equation (30): with 100/T, alone, with ln(T/100); then with S times (T/100) to the powers 0, 1, 2. It prints one value for it, and no
+# table.
+BY_COLD, ALONE, BY_LOG, *BY_SALT = (Fraction(c).as_integer_ratio() for c in "93.4517 -60.2409 23.3585 0.023517 -0.023656 0.0047036".split())
+CARBON_PRINTED = 35, 25, "-3.5617"
+LN3_TERMS, LOG_TERMS = 40, 12  # the panel has 16 and 4
+CARBON = 2, 1_000_000  # proved on the grid
+SENT_CARBON = 24, 1_000_000  # measured: half a step of temperature is worth 20, one of salinity 3
+CARBON_POINTS, CARBON_SENT = 20_000, 2_000
+
+
+def plus(*some):
+    n, d = 0, 1
+    for a in some:
+        n, d = n * a[1] + a[0] * d, d * a[1]
+    return n, d
+
+
+def times(*some):
+    n, d = 1, 1
+    for a in some:
+        n, d = n * a[0], d * a[1]
+    return n, d
+
+
+def odd_series(x, count):
+    """Twice x + x^3/3 + x^5/5 and on, so many terms: the sum, and the sum with twice the next term, which is more than all that are left out where x
+    is not over one half."""
+    n, d = x
+    common = lcm(*range(1, 2 * count, 2))
+    top = sum(n ** (2 * k + 1) * d ** (2 * (count - 1 - k)) * (common // (2 * k + 1)) for k in range(count))
+    total = 2 * top, d ** (2 * count - 1) * common
+    return total, plus(total, (4 * n ** (2 * count + 1), d ** (2 * count + 1) * (2 * count + 1)))
+
+
+LN3 = odd_series((1, 2), LN3_TERMS)
+
+
+def by_equation(salinity, temperature):
+    """ln K0 at two fractions, with both sums for the logarithm."""
+    kelvin = plus(temperature, (27_315, 100))
+    hundreds = times(kelvin, (1, 100))
+    apart_from_300 = (kelvin[0] - 300 * kelvin[1], kelvin[0] + 300 * kelvin[1])
+    salt = times(salinity, plus(BY_SALT[0], times(BY_SALT[1], hundreds), times(BY_SALT[2], hundreds, hundreds)))
+    rest = plus(times(BY_COLD, (hundreds[1], hundreds[0])), ALONE, salt)
+    return [plus(rest, times(BY_LOG, plus(ln3, series))) for ln3, series in zip(LN3, odd_series(apart_from_300, LOG_TERMS))]
+
+
+def solubilities(command, readings):
+    """The panel's refusal and ln K0 of each reading as sent, deep and surface in turn, with a pressure that is no number."""
+    requests = b"".join(b"o" + struct.pack("<I3f", 1 + i % 2, *reading, float("nan")) for i, reading in enumerate(readings))
+    answers = subprocess.run(command, input=requests, stdout=subprocess.PIPE, check=True).stdout
+    assert len(answers) == 16 * len(readings)
+    return list(struct.iter_unpack("<2q", answers))
+
+
+def carbon_points(rng):
+    """Every whole salinity with every whole degree; seeded points, ends and what is next to them more often."""
+    edges = [0, 0, 1, 26_849, 26_850, 26_851, 39_999, 40_000]
+    yield from product(range(0, 42_001, 1_000), range(0, 40_001, 1_000))
+    for _ in range(CARBON_POINTS):
+        yield rng.choice([0, 1, 41_999, 42_000] + [rng.randint(0, 42_000)] * 8), rng.choice(edges + [rng.randint(0, 40_000)] * 24)
+
+
+def carbon_sent(rng):
+    """As far as floats come from the grid, near 0 degrees C above all, where half a step is worth most; and any floats."""
+    found = []
+    for _ in range(CARBON_SENT):
+        s, t = rng.choice([0, 1, 42_000, rng.randint(0, 42_000)]), rng.choice([0, 1, rng.randint(0, 100), rng.randint(0, 40_000)])
+        found += product(farthest(s, 0), farthest(t, 1))
+    found += [(any_float(rng, 0), any_float(rng, 1)) for _ in range(CARBON_SENT)]
+    return [(s, t) for s, t in found if t >= 0]
+
+
+def millionths_apart(shown, a):
+    return abs(shown * a[1] - 1_000_000 * a[0]), 1_000_000 * a[1]
+
+
+def carbon(command, rng):
+    """Lines for what is wrong, and what was met."""
+    wrong, met = [], []
+    s, t, text = CARBON_PRINTED
+    if any(rounded(n * 10**4, d) != Fraction(text) * 10**4 for n, d in by_equation((s, 1), (t, 1))):
+        wrong.append(f"the handbook prints {text} for ln K0 at {s}, {t}, the equation gives another")
+
+    points, sent = list(dict.fromkeys(carbon_points(rng))), carbon_sent(rng)
+    on = [tuple(nearest(x, place) for place, x in enumerate(point)) for point in points]
+    for what, readings, at, within in (
+        ("on the grid", on, [((s, 1_000), (t, 1_000)) for s, t in points], CARBON),
+        ("as sent", sent, [(s.as_integer_ratio(), t.as_integer_ratio()) for s, t in sent], SENT_CARBON),
+    ):
+        largest = (0, 1)
+        for reading, fractions, (refusal, shown) in zip(readings, at, solubilities(command, readings)):
+            errors = [millionths_apart(shown, a) for a in by_equation(*fractions)]
+            largest = ends([largest, *errors])[1]
+            if refusal or any(below(within, error) for error in errors):
+                wrong.append(f"ln K0 {what} at {reading}: refused by {refusal}, or {shown} is over {within[0]} millionths from the equation")
+        met.append(f"{len(readings)} {what}, largest error {in_millionths(largest)}")
+        if below(largest, (1, 2_000_000)) or (what == "as sent" and below(largest, (22, 1_000_000))):
+            wrong.append(f"ln K0 {what}: no error near the largest there is was met")
+    return wrong, f"ln K0, in 10^-6: {'; '.join(met)}"
+
+
 def main():
     command = sys.argv[1:]
     if not command:
@@ -521,6 +628,8 @@ def main():
 
     more, told = as_sent(command, rng, readings)
     wrong += more
+    more, told_carbon = carbon(command, rng)
+    wrong += more
     for line in wrong[:10]:
         print("sampling:", line)
     print(
@@ -529,7 +638,7 @@ def main():
         f" largest error {in_millionths(largest)},"
         f" smallest salinity step {in_millionths(least['saltier'])} (shown {1_000 * least_shown['saltier']}),"
         f" smallest pressure step {in_millionths(least['deeper'])} (shown {1_000 * least_shown['deeper']}),"
-        f" largest needle error {in_millionths(worst)}; {told}; {len(wrong)} wrong"
+        f" largest needle error {in_millionths(worst)}; {told}; {told_carbon}; {len(wrong)} wrong"
     )
     sys.exit(1 if wrong else 0)
 

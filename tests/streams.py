@@ -1,9 +1,10 @@
-"""Streams that are hard on a reader: every cut, kind and length, bad floats in every place, knife edges, waters at two depths, seeded random
-ones."""
+"""Streams that are hard on a reader: every cut, kind and length, bad floats in every place, knife edges of the density and of ln K0, waters at
+two depths, seeded random ones."""
 import random
 import struct
 
-from model import EXAMPLE, LONGEST_PAGE, QUANTITIES, bits_of, needle, needle_at, page, pairs
+import model
+from model import EXAMPLE, LONGEST_PAGE, QUANTITIES, bits_of, channel, co2, needle, needle_at, page, pairs
 
 RANDOM_STREAMS = 1_300
 
@@ -44,7 +45,7 @@ def around(bits):
 def specials(place):
     low, high, unit, _ = QUANTITIES[place]
     ends = [b for x in (low, high, -high, low - 1, high + 1) for b in around(bits_of(x))]
-    steps = [b for x in (low, high) for d in (-1, -0.5, 0.5, 1) for b in around(bits_of(x + d / unit))]
+    steps = [b for x in (low, 0, high) for d in (-1, -0.5, 0.5, 1) for b in around(bits_of(x + d / unit))]
     return [*NANS, *INFINITIES, *ZEROS, *TINY, *HUGE, *ends, *steps, bits_of(1), bits_of(-1), bits_of(0.0625), bits_of(-0.0625)]
 
 
@@ -80,10 +81,12 @@ def cut_to_fit(records):
     yield from both_sides(some)
 
 
-# One of everything: each kind, refused floats, unknown kinds and wrong lengths, and a body that looks like records.
+# One of everything: each kind, refused floats, unknown kinds and wrong lengths, a body that looks like records; readings with a density and no
+# ln K0, and the other way round.
 ALL_KINDS = b"".join(
     [DEEP, SURFACE, MISSING, surface(PLAIN[0], NANS[0]), made(17, MISSING + SURFACE[:5]), made(2, DEEP[4:]), made(3, MISSING),
-     deep(PLAIN[0], PLAIN[1], 0x447A0001), made(1, b""), SURFACE, made(4, b"\1\2\3\4\5")]
+     deep(PLAIN[0], PLAIN[1], 0x447A0001), made(1, b""), SURFACE, surface(PLAIN[0], bits_of(-1)), deep(PLAIN[0], PLAIN[1], NANS[0]),
+     made(4, b"\1\2\3\4\5")]
 )
 KINDS = [0, 1, 2, 3, 4, 5, 16, 17, 255, 256, 257, 258, 512, 768, 65535]
 SHORT_LENGTHS = [0, 1, 4, 7, 8, 9, 11, 12, 13]
@@ -130,6 +133,7 @@ def refusal_order(rng):
         [PLAIN[i], 0x7FC00000, 0xFF800000, bits_of(low - 1), around(bits_of(high))[2]]
         for i, (low, high, _, _) in enumerate(QUANTITIES)
     ]
+    bad[1] += [bits_of(-1), 0x80000001, 0x80000000]  # good enough for a density
     records = [deep(s, t, p) for s in bad[0] for t in bad[1] for p in bad[2]] + [surface(s, t) for s in bad[0] for t in bad[1]]
     yield from both_sides(records)
     rng.shuffle(records)
@@ -176,6 +180,30 @@ KNIFE_EDGES = {
 def knife_edges():
     waters = [deep(bits_of(s / 1_000), bits_of(t / 1_000), bits_of(p / 100)) for some in KNIFE_EDGES.values() for s, t, p in some]
     return both_sides(waters)
+
+
+# Waters, in grid numbers of salinity and temperature and found by search, whose ln K0 hangs on the last unit: each would show such a slip.
+CO2_EDGES = {
+    "15 terms for ln 3": [(13767, 33361), (3145, 20604), (33429, 25138), (30663, 1239), (11592, 9936), (40051, 32172), (930, 17048)],
+    "3 terms for the rest": [(1124, 1754), (16918, 1787), (22847, 3933), (34500, 1180), (27689, 136), (38949, 270), (16632, 2564)],
+    "ln 3 itself for its 16 terms": [(15978, 10565), (15898, 1747), (18403, 28501), (41644, 19716), (1312, 39702), (38994, 7432)],
+    "a scaled product rounded towards zero": [(26487, 25447), (37232, 36437), (17992, 13736), (8236, 37374), (35229, 3223), (40695, 23055)],
+    "100/T rounded to the nearest": [(6241, 9616), (1364, 36209), (5278, 24397), (30173, 2327), (33646, 28068), (7834, 16451)],
+    "halves downward": [(11970, 30581), (817, 31411), (17759, 15956), (35075, 25387), (6541, 23121), (41425, 38011)],
+    "273.16 for 273.15, or a sign": [(35000, 25000), (35000, 5000), (0, 0), (42000, 0), (0, 40000), (42000, 40000), (20000, 26850), (20000, 26849)],
+}
+
+
+def co2_reports():
+    """Each at the surface, deep, and deep with a pressure that has no density."""
+    pressures = [bits_of(250), *NANS, *INFINITIES, bits_of(-1), 0x447A0001]
+    for i, (s, t) in enumerate(water for some in CO2_EDGES.values() for water in some):
+        floats = bits_of(s / 1_000), bits_of(t / 1_000)
+        yield from ((kind, *floats, p) for kind, p in ((2, NANS[0]), (1, pressures[0]), (1, pressures[1 + i % (len(pressures) - 1)])))
+
+
+def co2_edges():
+    return both_sides([record_of(*report) for report in co2_reports()])
 
 
 # Pairs of waters, in grid numbers, whose needle hangs on the pressure that both are put to.
@@ -306,7 +334,7 @@ def hard_streams():
     yield from (EXAMPLE[:n] for n in range(len(EXAMPLE) + 1))
     for whole in (ALL_KINDS, MISSING + ALL_KINDS):
         yield from (whole[:n] for n in range(len(whole) + 1))
-    for part in (heads(), every_kind(), trailing(), refusal_order(rng), float_streams(rng), knife_edges(), depths(), sizes(rng)):
+    for part in (heads(), every_kind(), trailing(), refusal_order(rng), float_streams(rng), knife_edges(), co2_edges(), depths(), sizes(rng)):
         yield from part
     yield from (LONGEST, LONGEST[4:], LONGEST + b"\0", WIDEST_LINES, WIDEST_LINES[16:])
     yield from (SURFACE * n for n in (1, 2, 3, 7, 99, 2_499, 5_000))
@@ -323,8 +351,24 @@ WRONG_NEEDLES = {
 }
 
 
+# What a reading is refused by, for its density and for its ln K0: 0 is for not at all.
+BOTH_REFUSALS = {(n, n) for n in (0, 1, 2, 3, 4, 6, 7, 8)} | {(0, 4), (2, 0), (2, 3), (2, 4), (5, 0), (5, 4)}
+
+
+def covered_co2(every):
+    """Whatever a reading can be refused by is among what is tried, on either side; so are the waters that a term fewer would show."""
+    some = [pair for stream in every if len(stream) <= 60_000 for pair in model.reports(stream)]
+    for side in (0, 1):
+        assert {(channel(*pair[side]).refusal, co2(*pair[side]).refusal) for pair in some} == BOTH_REFUSALS
+    tried = {report for pair in some for report in pair}
+    assert {report[: 1 + model.FLOATS[report[0]]] for report in co2_reports()} <= tried
+    fewer = {"15 terms for ln 3": {"ln3_terms": 15}, "3 terms for the rest": {"log_terms": 3}}
+    assert all(model.solubility(*water) != model.solubility(*water, **terms) for name, terms in fewer.items() for water in CO2_EDGES[name])
+
+
 def covered(every):
     """Every refusal number on either side and every sign of a needle is among what is tried, and where each wrong needle lies the other way."""
+    covered_co2(every)
     found = set()
     for stream in every:
         if len(stream) <= 60_000:

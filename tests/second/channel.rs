@@ -250,18 +250,29 @@ fn anywhere(place: usize) -> Vec<Report> {
     reports
 }
 
+/// A sort of reports: its name, and what makes them.
+type Sort = (&'static str, fn() -> Vec<Report>);
+
+/// The sorts of reports that every answer to one report is held to.
+pub fn sorts() -> [Sort; 7] {
+    [
+        ("floats about the limits", limits),
+        ("floats of every exponent", patterns),
+        ("floats about the halves of the grid", halves),
+        ("bad floats, each with each", bad_with_bad),
+        ("random salinities as floats", || anywhere(0)),
+        ("random temperatures as floats", || anywhere(1)),
+        ("random pressures as floats", || anywhere(2)),
+    ]
+}
+
 pub fn all(panel: &Panel, formula: &Formula) -> Vec<Tally> {
     assert_eq!([35, 5, 42].map(|n| Float::nearest(n, 1)), [0x420c_0000, 0x40a0_0000, 0x4228_0000].map(Float));
     let mut seen = BTreeSet::new();
     let mut tallies = vec![paper(panel, formula)];
-    let mut hold = |name, reports: Vec<Report>| tallies.push(compare(panel, formula, &mut seen, name, &reports));
-    hold("floats about the limits", limits());
-    hold("floats of every exponent", patterns());
-    hold("floats about the halves of the grid", halves());
-    hold("bad floats, each with each", bad_with_bad());
-    hold("random salinities as floats", anywhere(0));
-    hold("random temperatures as floats", anywhere(1));
-    hold("random pressures as floats", anywhere(2));
+    for (name, reports) in sorts() {
+        tallies.push(compare(panel, formula, &mut seen, name, &reports()));
+    }
     let mut refusals = Tally::new("refusals of channels, all seen");
     refusals.same(seen, BTreeSet::from([0, 1, 2, 3, 4, 5, 7]), &"all reports");
     tallies.push(refusals);

@@ -1,6 +1,7 @@
 //! The second program: it works everything out again and holds the compiled panel to it.
 
 mod channel;
+mod co2;
 mod floats;
 mod grid;
 mod needle;
@@ -11,14 +12,14 @@ mod recorder;
 
 /// What was tried and what came out wrong.
 pub struct Tally {
-    pub name: &'static str,
+    pub name: String,
     pub tried: u64,
     pub wrong: u64,
 }
 
 impl Tally {
-    pub fn new(name: &'static str) -> Tally {
-        Tally { name, tried: 0, wrong: 0 }
+    pub fn new(name: &str) -> Tally {
+        Tally { name: name.to_string(), tried: 0, wrong: 0 }
     }
 
     /// Counts one comparison; the first few that fail are shown.
@@ -38,6 +39,7 @@ fn main() {
     let formula = recipe::Formula::printed();
     let mut tallies = grid::all(&panel, &formula);
     tallies.extend(channel::all(&panel, &formula));
+    tallies.extend(co2::all(&panel));
     tallies.extend(needle::all(&panel, &formula));
     tallies.extend(recorder::all(&panel));
     let mut wrong = 0;
