@@ -30,13 +30,13 @@ static struct reading {
     float salinity, temperature, pressure;
 } readings[MOST];
 
-/* Temperature and pressure over their whole ranges; the salinity too, or from 33 to 36, or 35. */
-static void take_readings(const char *which) {
+/* Pressure over its whole range, and temperature from the coldest on; the salinity over its range too, or from 33 to 36, or 35. */
+static void take_from(const char *which, int64_t coldest) {
     state = 1;
     for (int i = 0; i < MOST; i++) {
         struct reading *r = &readings[i];
         r->sigma = which == waters[0] ? (int64_t)draw(42001) : which == waters[1] ? 33000 + (int64_t)draw(3001) : 35000;
-        r->tau = (int64_t)draw(42001) - 2000;
+        r->tau = coldest + (int64_t)draw((uint64_t)(40001 - coldest));
         r->pi = (int64_t)draw(100001);
         r->s = (double)r->sigma / 1000;
         r->t = (double)r->tau / 1000;
@@ -45,6 +45,15 @@ static void take_readings(const char *which) {
         r->temperature = (float)r->t;
         r->pressure = (float)r->p;
     }
+}
+
+static void take_readings(const char *which) {
+    take_from(which, -2000);
+}
+
+/* Those that have a ln K0. */
+static void take_mild(const char *which) {
+    take_from(which, 0);
 }
 
 static const char *const streams[] = {"deep", "surface", "missing"};
@@ -71,19 +80,21 @@ static const char *const shapes[] = {"accepted", "refused", "sheet"};
 static struct row rows[MOST];
 static uint8_t table[ROWS * ROW];
 
-/* The uniform readings two by two, as details prints them, or all of them missing; or as the sheet does, which is through with them after half
- * the rows and starts again. */
+/* The uniform readings from 0 degrees C on two by two, as details prints them, or all of them missing; or as the sheet does, which is through with
+ * them after half the rows and starts again. */
 static void take_rows(const char *which) {
-    take_readings(waters[0]);
+    take_mild(waters[0]);
     for (int i = 0; i < MOST; i++) {
         const struct reading *r = &readings[i];
         int number = i / 2 + 1, side = i % 2;
         if (which == shapes[0]) {
             int density = (int)warpsorrel_density(r->sigma, r->tau, r->pi), bulk = (int)warpsorrel_bulk(r->sigma, r->tau, r->pi);
-            rows[i] = (struct row){ACCEPTED, number, side, {(int)r->sigma, (int)r->tau, (int)r->pi, density, bulk},
-                                   {r->s, r->t, r->p, density / 1000.0, bulk / 100.0}};
+            int64_t ln_k0;
+            warpsorrel_co2(1, r->salinity, r->temperature, r->pressure, &ln_k0);
+            rows[i] = (struct row){ACCEPTED, number, side, {(int)r->sigma, (int)r->tau, (int)r->pi, density, bulk, (int)ln_k0},
+                                   {r->s, r->t, r->p, density / 1000.0, bulk / 100.0, (double)ln_k0 / 1e6}};
         } else if (which == shapes[1]) {
-            rows[i] = (struct row){REFUSED, number, side, {1, 1, 1, 1, 1}, {0}};
+            rows[i] = (struct row){REFUSED, number, side, {1, 1, 1, 1, 1, 1}, {0}};
         } else {
             int pair = i % (MOST / 2);
             int64_t out[3];
@@ -136,6 +147,25 @@ static uint64_t formula_needle(int n) {
     return (uint64_t)(int64_t)sum;
 }
 
+#define CO2(name, co2) \
+    static uint64_t name(int n) { \
+        int64_t out, sum = 0; \
+        for (int i = 0; i < n; i++) { \
+            sum += co2(1, readings[i].salinity, readings[i].temperature, readings[i].pressure, &out); \
+            sum += out; \
+        } \
+        return (uint64_t)sum; \
+    }
+CO2(library_co2, warpsorrel_co2)
+CO2(c_co2, plain_co2)
+
+/* From floats too, and nothing checked or rounded. */
+static uint64_t formula_co2(int n) {
+    double sum = 0;
+    for (int i = 0; i < n; i++) sum += double_co2(readings[i].salinity, readings[i].temperature);
+    return (uint64_t)(int64_t)sum;
+}
+
 #define PAGE(name, write) \
     static uint64_t name(int n) { \
         uint64_t sum = 0; \
@@ -175,6 +205,9 @@ static const struct work {
     {"needle", "library", library_needle, MOST, FEW, 0.5, "million"},
     {"needle", "plain", c_needle, MOST, FEW, 0.5, "million"},
     {"needle", "double", formula_needle, MOST, FEW, 0.5, "million"},
+    {"co2", "library", library_co2, MOST, FEW, 1, "million"},
+    {"co2", "plain", c_co2, MOST, FEW, 1, "million"},
+    {"co2", "double", formula_co2, MOST, FEW, 1, "million"},
     {"page", "library", library_page, 2, 1, 1, "thousand"},
     {"page", "plain", c_page, 2, 1, 1, "thousand"},
     {"row", "library", library_rows, ROWS, FEW / 5, 1, "million rows"},
@@ -187,7 +220,8 @@ static const struct {
     const char *what;
     const char *const *data;
     void (*take)(const char *);
-} all[] = {{"reading", waters, take_readings}, {"needle", waters, take_readings}, {"page", streams, take_stream}, {"row", shapes, take_rows}};
+} all[] = {{"reading", waters, take_readings}, {"needle", waters, take_readings}, {"co2", waters, take_mild}, {"page", streams, take_stream},
+           {"row", shapes, take_rows}};
 #define ALL (int)(sizeof all / sizeof *all)
 
 /* Whether a work answers to a thing's data: a refused row has no doubles. */
@@ -200,6 +234,17 @@ static int answers(int i, int a, int d) {
 static int differs(const char *what, const char *data, int i) {
     printf("differs: %s, %s data, number %d\n", what, data, i);
     return 1;
+}
+
+/* Whether ln K0 differs, of a report with a float of any sort in one place. */
+static int co2_differs(const struct reading *r, uint32_t kind) {
+    static const uint32_t sorts[] = {0x7fc00000, 0xff800001, 0x7f800000, 0xff800000, 0x00000000, 0x80000000, 0x80000001, 0x42280000,
+                                     0x42280001, 0x42200000, 0x42200001, 0xbf800000, 0x447a0001};
+    float floats[3] = {r->salinity, r->temperature, r->pressure};
+    if (draw(2) == 0) memcpy(&floats[draw(3)], &sorts[draw(sizeof sorts / sizeof *sorts)], 4);
+    int64_t one, two;
+    uint32_t refusal = warpsorrel_co2(kind, floats[0], floats[1], floats[2], &one);
+    return refusal != plain_co2(kind, floats[0], floats[1], floats[2], &two) || one != two;
 }
 
 /* Whether the two pages of so many bytes differ, in a room of so many: refusal, count, bytes. */
@@ -242,6 +287,16 @@ static int check(void) {
                 return differs("needle", waters[d], i);
             off = double_needle(l->s, l->t, lk == WARPSORREL_DEEP ? l->p : 0, r->s, r->t, rk == WARPSORREL_DEEP ? r->p : 0) - (double)one[2] / 1000;
             if (refusal == 0 && (off > 0.0012 || off < -0.0012)) return differs("needle in doubles", waters[d], i);
+            if (co2_differs(r, rk)) return differs("ln K0", waters[d], i);
+        }
+        take_mild(waters[d]);
+        for (int i = 0; i < MOST; i++) {
+            const struct reading *r = &readings[i];
+            int64_t ln_k0;
+            if (co2_differs(r, WARPSORREL_DEEP) || warpsorrel_co2(WARPSORREL_DEEP, r->salinity, r->temperature, r->pressure, &ln_k0) != 0)
+                return differs("ln K0", waters[d], i);
+            double off = double_co2(r->s, r->t) - (double)ln_k0 / 1e6;
+            if (off > 0.000002 || off < -0.000002) return differs("ln K0 in doubles", waters[d], i);
         }
         take_stream(streams[d]);
         if (pages_differ(STREAM, sizeof page)) return differs("page", streams[d], 0);
@@ -251,7 +306,7 @@ static int check(void) {
         for (int i = 0; i < MOST; i++)
             if (row_differs(&rows[i], (size_t)i % ROW)) return differs("row", shapes[d], i);
     }
-    printf("the library and C agree: %d readings, %d needles, 3 pages, %d rows\n", 3 * MOST, 3 * MOST, 3 * MOST);
+    printf("the library and C agree: %d readings, %d needles, %d of ln K0, 3 pages, %d rows\n", 3 * MOST, 3 * MOST, 6 * MOST, 3 * MOST);
     return 0;
 }
 

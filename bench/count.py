@@ -12,11 +12,13 @@ step = "-one-insn-per-tb" if "-one-insn-per-tb" in subprocess.run([*emulator, "-
 
 WORK = [("reading", data, who) for data in ("uniform", "sea-like", "one-salinity") for who in ("library", "plain", "plain-jump", "plain-sqrt", "double")]
 WORK += [("needle", data, who) for data in ("uniform", "sea-like", "one-salinity") for who in ("library", "plain", "double")]
+WORK += [("co2", data, who) for data in ("uniform", "sea-like", "one-salinity") for who in ("library", "plain", "double")]
 WORK += [("page", data, who) for data in ("deep", "surface", "missing") for who in ("library", "plain")]
 WORK += [("row", data, who) for data in ("accepted", "refused", "sheet") for who in ("library", "snprintf")]
 WORK += [("row", data, "snprintf-double") for data in ("accepted", "sheet")]
+# The doubles' logarithm is the C library's, and counted with them.
 FILES = {"library": "libwarpsorrel.a(", "plain": "plain.o", "plain-jump": "jump.o", "plain-sqrt": "sqrt.o", "double": "double.o",
-         "row library": "put_row.o", "row snprintf": "libc.a(", "row snprintf-double": "libc.a("}
+         "co2 log": "/libm-", "row library": "put_row.o", "row snprintf": "libc.a(", "row snprintf-double": "libc.a("}
 
 
 def places():
@@ -25,7 +27,7 @@ def places():
     parts = [(int(start, 16), int(size, 16), path) for start, size, path in re.findall(r"^ \.text\S*\s+0x([0-9a-f]+)\s+0x([0-9a-f]+) (\S+)$", text, re.M)]
     found, last = collections.defaultdict(list), None
     for start, size, path in sorted(part for part in parts if part[1] > 0):
-        name = next((name for name in FILES.values() if (name in path if name.endswith("(") else path.split("/")[-1] == name)), None)
+        name = next((name for name in FILES.values() if (name in path if name[-1] in "(-" else path.split("/")[-1] == name)), None)
         if name == last:
             start, size = found[name][-1][0], start + size - found[name].pop()[0]
         found[name].append((start, size))
@@ -65,7 +67,8 @@ def main():
     code, kinds = places(), classes()
     for what, data, who in WORK:
         file = f"row {who}" if what == "row" else who
-        ranges = ",".join("0x%x+0x%x" % place for place in code[FILES[file]])
+        parts = code[FILES[file]] + (code[FILES["co2 log"]] if (what, who) == ("co2", "double") else [])
+        ranges = ",".join("0x%x+0x%x" % place for place in parts)
         found, answers = counted(["once", what, data, who], ranges)
         if FILES[file] == "libc.a(":  # which also starts the program and prints its line
             found.subtract(counted(["never", what, data, who], ranges)[0])

@@ -1,5 +1,6 @@
 /* EOS-80 in doubles, as it is usually programmed: Millero and Poisson (1981) at one atmosphere; Millero, Chen, Bradshaw and Schleicher
- * (1980) under pressure. Coefficients as printed in UNESCO Technical Papers in Marine Science 38 and 44. Nothing is checked. */
+ * (1980) under pressure. Coefficients as printed in UNESCO Technical Papers in Marine Science 38 and 44. And ln K0 of Weiss (1974), as the handbook
+ * of CO2 measurements prints it. Nothing is checked. */
 #include <math.h>
 #include "plain.h"
 
@@ -22,4 +23,9 @@ double double_density(double s, double t, double p) {
 double double_needle(double ls, double lt, double lp, double rs, double rt, double rp) {
     double p = lp > rp ? lp : rp;
     return double_density(rs, rt, p) - double_density(ls, lt, p);
+}
+
+double double_co2(double s, double t) {
+    double h = (t + 273.15) / 100;
+    return 93.4517 / h - 60.2409 + 23.3585 * log(h) + s * (0.023517 + h * (-0.023656 + h * 0.0047036));
 }

@@ -7,7 +7,7 @@ WHO = {"library": ("the library", "#1b6ca8"), "plain": ("plain C", "#707070"), "
        "snprintf": ("snprintf of whole numbers", "#3d8c57"), "snprintf-double": ("snprintf of doubles", "#a3cfae")}
 
 # What is drawn and tabled together: whose figure is 1, who has a column, beside whom the library's ratio is given.
-TOGETHER = {"plain": (["library", "plain", "plain-jump", "plain-sqrt", "double"], ["plain"]),
+TOGETHER = {"plain": (["library", "plain", "plain-jump", "plain-sqrt", "double"], ["plain", "double"]),
             "snprintf": (["library", "snprintf", "snprintf-double"], ["snprintf", "snprintf-double"])}
 
 

@@ -21,10 +21,25 @@ struct oracle_needle {
     int64_t value;
 };
 
+/* ln K0 in millionths; 0 if refused. */
+struct oracle_co2 {
+    uint32_t refusal;
+    int64_t value;
+};
+
 size_t oracle_pairs(const uint8_t *stream, size_t length);
 
 /* The pair with so many before it, left then right; 0 where there is none. */
 int oracle_pair(const uint8_t *stream, size_t length, size_t before, struct oracle_report reports[2], struct oracle_channel channels[2]);
+
+/* The reports of the pair at a place, which moves past it; 0 at the stream's end. */
+int oracle_next(const uint8_t *stream, size_t length, size_t *at, struct oracle_report reports[2]);
+
+/* By salinity and temperature alone. */
+struct oracle_co2 oracle_co2(const struct oracle_report *report);
+
+/* The published equation for ln K0 in doubles, of a report that is not refused, at its salinity and temperature on the grid. */
+double oracle_equation(const struct oracle_report *report);
 
 /* Both waters at the greater of the two pressures. */
 struct oracle_needle oracle_needle(const struct oracle_channel channels[2]);

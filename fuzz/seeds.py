@@ -28,6 +28,10 @@ SEEDS = {
     "not-a-number": deep(35, float("nan"), 10) + surface(float("inf"), 5),
     "outside": deep(43, 5, 10) + deep(35, 41, 10) + deep(35, 5, 1001) + surface(-1, 5),
     "ends": deep(42, -2, 0) + deep(0, 40, 1000),
+    "cold": surface(35, -1) + deep(35, -0.0, 10) + surface(35, -0.0004) + deep(42, 40, 0),
+    "no-depth": deep(35, 25, float("nan")) + deep(35, 25, float("inf")) + deep(35, 5, 1001) + deep(35, -1, -1),
+    # where ln K0 hangs on the last term of ln 3, the last of the series, a half, a product rounded down
+    "last-units": surface(13.767, 33.361) + surface(1.124, 1.754) + surface(11.97, 30.581) + surface(26.487, 25.447),
     "no-such-kind": record(4, b"abcd") + surface(35, 5),
     "wrong-length": record(1, b"abcd") + record(3, b"a"),
     "cut-head": surface(35, 5) + b"\x08\x00",

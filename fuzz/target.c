@@ -1,9 +1,9 @@
 /* Every input is a stream. Held to the oracle: the count of pairs; the page, its refusal and its count; the first pair, the last, one past
- * the end and two picked by the input's bytes, each by all its words; and channels, needle and line of such a pair's reports. The densities
- * and the needle of such a pair are held as well to what is proved of them beside the published formula at the floats as sent. The bytes and
- * words past an answer and beside it have to keep their values; a room that is too short has to be left untouched. The rounding mode and
- * flush-to-zero are the input's choice: they must change nothing. Called with --long, the input is repeated to about 60,000 bytes, the
- * length from which a stream is too long. */
+ * the end and two picked by the input's bytes, each by all its words; and channels, needle and line of such a pair's reports; ln K0 of every
+ * report, with another pressure as well. The densities and the needle of such a pair are held as well to what is proved of them beside the
+ * published formula at the floats as sent, ln K0 to its equation on the grid. The bytes and words past an answer and beside it have to keep
+ * their values; a room that is too short has to be left untouched. The rounding mode and flush-to-zero are the input's choice: they must
+ * change nothing. Called with --long, the input is repeated to about 60,000 bytes, the length from which a stream is too long. */
 #include <math.h>
 #include <stdint.h>
 #include <stdio.h>
@@ -120,6 +120,23 @@ static void look_at_formula(const struct oracle_report reports[2], const struct 
     if (!(fabs((double)n.value / 1000 - difference) <= 0.0028 + ALLOWANCE)) fail("the needle and the formula's difference as sent");
 }
 
+/* The pressure is not read: with the stream's own and with another, as deep and as surface, the answer is the same. Proved on the grid: within 2
+ * millionths of the equation. */
+static void look_at_co2(const struct oracle_report *report) {
+    static const uint32_t unread[] = {0x7fc00000, 0xff800001, 0x7f800000, 0xff800000, 0x447a0001, 0x80000001, 0};
+    static unsigned turn;
+    struct oracle_co2 right = oracle_co2(report);
+    struct report r = report_of(report, right.refusal);
+    if (warpsorrel_co2(r.kind, r.salinity, r.temperature, r.pressure, lend_words()) != right.refusal) fail("the refusal of ln K0");
+    compare_words("ln K0", &right.value, 1);
+    memcpy(&r.pressure, &unread[turn++ % (sizeof unread / sizeof *unread)], 4);
+    if (r.kind == WARPSORREL_DEEP || r.kind == WARPSORREL_SURFACE) r.kind = 3 - r.kind;
+    if (warpsorrel_co2(r.kind, r.salinity, r.temperature, r.pressure, lend_words()) != right.refusal) fail("the refusal of ln K0, another pressure");
+    compare_words("ln K0, another pressure", &right.value, 1);
+    if (right.refusal) return;
+    if (!(fabs((double)right.value / 1e6 - oracle_equation(report)) <= 2e-6 + ALLOWANCE / 100)) fail("ln K0 and its equation");
+}
+
 /* The line is written in a room of WARPSORREL_LINE and in one of lent bytes. */
 static void look_at_pair(const uint8_t *stream, size_t length, size_t before, uint32_t number, size_t lent) {
     struct oracle_report reports[2];
@@ -180,6 +197,11 @@ static void look_at_stream(const uint8_t *stream, size_t length, uint64_t mixed)
     size_t lent = (size_t)(mixed >> 40) % (2 * WARPSORREL_LINE + 1);
     const size_t places[] = {0, pairs - (pairs > 0), pairs, (size_t)(mixed >> 32) % (pairs + 1), (size_t)mixed | SIZE_MAX / 2 + 1};
     for (size_t i = 0; i < sizeof places / sizeof *places; i++) look_at_pair(stream, length, places[i], number, lent);
+    struct oracle_report reports[2];
+    for (size_t at = 0; oracle_next(stream, length, &at, reports);) {
+        look_at_co2(&reports[0]);
+        look_at_co2(&reports[1]);
+    }
 
     const size_t too_short[] = {WARPSORREL_PAGE - 1, (size_t)(calls * 40503 % WARPSORREL_PAGE), 0};
     for (int i = 0; i < 3; i++) {
@@ -217,7 +239,7 @@ size_t LLVMFuzzerMutate(uint8_t *data, size_t size, size_t most);
 static const uint32_t floats[] = {
     0x00000000, 0x80000000, 0x00000001, 0x80000001, 0x3f800000, 0x42280000, 0x42280001, 0x4227ffff, 0xc0000000, 0xc0000001, 0xbfffffff,
     0x42200000, 0x42200001, 0x421fffff, 0x447a0000, 0x447a0001, 0x4479ffff, 0x7f800000, 0xff800000, 0x7fc00000, 0x7f800001, 0xffffffff,
-    0x3d800000, 0xbd800000, 0x3a03126f, 0x3a031270, 0x420c0000, 0x40a00000, 0x41c80000, 0x7f7fffff,
+    0x3d800000, 0xbd800000, 0x3a03126f, 0x3a031270, 0x420c0000, 0x40a00000, 0x41c80000, 0x7f7fffff, 0xbf800000, 0xba03126f, 0x41d6cccd,
 };
 #define FLOATS (sizeof floats / sizeof *floats)
 
