@@ -54,7 +54,9 @@ first-two Report.Missing r g = absurd (nothing g)
 
 pub record Valued (r : Reading) (z : ℤ) : Type 0 where
   pub value-is : z ≡ lnK0 (plus (gridNo 1000 (r .salinity))) (kelvin (gridNo 1000 (r .temperature)))
+  pub salinity-low : minus (gridNo 1000 (r .salinity)) ≡ 0
   pub salinity-high : plus (gridNo 1000 (r .salinity)) ≤ 42_000
+  pub temperature-low : minus (gridNo 1000 (r .temperature)) ≡ 0
   pub temperature-high : plus (gridNo 1000 (r .temperature)) ≤ 40_000
 
 pub known-is : (report : Report) (r : Reading) (z : ℤ) → givenOf report ≡ some r → Known z ≡ solubilityOf (Entry.Reading report) → Valued r z
@@ -75,7 +77,9 @@ known-is report r z g is = go (checkedFor Purpose.Carbon (unpressed report)) ref
         let v : z ≡ lnK0 (plus (p .sigma)) (kelvin (p .tau)) = cc in
         record {
           value-is = v ∙ ap₂ (λ (a b : ℤ). lnK0 (plus a) (kelvin b)) σ τ;
+          salinity-low = subst (λ (a : ℤ). minus a ≡ 0) σ (m .0);
           salinity-high = subst (λ (a : ℤ). plus a ≤ 42_000) σ (m .1 .0);
+          temperature-low = subst (λ (a : ℤ). minus a ≡ 0) τ (m .1 .1 .0);
           temperature-high = subst (λ (a : ℤ). plus a ≤ 40_000) τ (m .1 .1 .1);
         }
 

@@ -1,5 +1,5 @@
 -- ln K0 in numbers: points of the grid as one list, and one theorem over it, which is computed; then the logarithm, the row and the sum in 10⁻¹¹ at
--- two odd readings, where the divisions leave rests: one rounded otherwise would hardly show in millionths. Assumes nothing.
+-- odd readings: what is rounded otherwise there would hardly show in millionths. Assumes nothing.
 use Prim.Native.Nat.{ℕ}
 use mathlib.Core.Path.{_≡_, refl}
 use mathlib.Core.List.{List, [], _∷_, map}
@@ -18,7 +18,7 @@ at σ τ size = record { σ = σ; τ = τ; size = size }
 
 unfoldable pub points : List Point
 points =
-    -- the handbook's −3.5617 (source 001)
+    -- the handbook's −3.5617
     at 35_000 25_000 3_561_652
     -- the corners
     ∷ at 0 0 2_556_496
@@ -32,10 +32,10 @@ points =
     ∷ at 35_000 26_849 3_607_525
     ∷ at 35_000 26_850 3_607_549
     ∷ at 35_000 26_851 3_607_574
-    -- with 15 terms for ln 3 these are 1 less
+    -- with 15 terms for ln 3 ln K0 is 1 lower at these
     ∷ at 32_817 18_325 3_370_325
     ∷ at 8_887 13_458 3_089_748
-    -- and with 3 for the rest these
+    -- and with 3 for the rest 1 higher at these
     ∷ at 9_305 1_747 2_680_537
     ∷ at 27_464 952 2_758_440
     -- halves, which go upward
@@ -47,9 +47,10 @@ pub points-hold : map (λ (p : Point). lnK0 (p .σ) (kelvin (pos (p .τ)))) poin
 unfolding points terms odd ln3 lnT byCold byLog salts scaled rowValue bySalt fine lnK0
 points-hold = refl
 
-pub logarithms : (lnT 277_863 ≡ 102_195_800_034) × (lnT 309_877 ≡ 113_100_525_838)
+pub logarithms :
+    (lnT 277_863 ≡ 102_195_800_034) × ((lnT 309_877 ≡ 113_100_525_838) × ((lnT 276_154 ≡ 101_578_849_504) × (lnT 311_913 ≡ 113_755_411_656)))
 unfolding terms odd ln3 lnT
-logarithms = (refl, refl)
+logarithms = (refl, (refl, (refl, refl)))
 
 pub rows : (rowValue salts (pos 277_863) ≡ neg 58_987_884_738) × (rowValue salts (pos 309_877) ≡ neg 46_217_696_576)
 unfolding salts scaled rowValue

@@ -4,7 +4,7 @@ use mathlib.Core.Path.{_≡_, ap, sym}
 use native.Mathlib.Omega.{arith}
 use native.Mathlib.Nat.{mul-le-mul}
 use lib.IntN.{ℤ, pos, natAbs, _+ℤ_, _*ℤ_}
-use Rattle.whole.specs.Arith.{neg, plus, minus, scaled, rowValue}
+use Rattle.whole.specs.Arith.{neg, scaled, rowValue}
 use Rattle.whole.proofs.Ints.{size-is, add-is, mul-size, floor-size}
 use Rattle.whole.proofs.Row.{row-one}
 use Rattle.carbon.specs.Weiss.{salts}

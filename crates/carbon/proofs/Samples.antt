@@ -79,5 +79,5 @@ unfolding solubilityOf checkedFor
 nothing-holds = refl
 
 -- the number and the value of an answer
-pub numbers : (solubilityNumber (Known (neg 62)) ≡ 0) × ((solubilityValue (Known (neg 62)) ≡ neg 62) × ((solubilityNumber (Refused Refusal.Temperature) ≡ 4) × (solubilityValue (Refused Refusal.Temperature) ≡ pos 0)))
-numbers = (refl, (refl, (refl, refl)))
+pub solubility-numbers : (solubilityNumber (Known (neg 62)) ≡ 0) × ((solubilityValue (Known (neg 62)) ≡ neg 62) × ((solubilityNumber (Refused Refusal.Temperature) ≡ 4) × (solubilityValue (Refused Refusal.Temperature) ≡ pos 0)))
+solubility-numbers = (refl, (refl, (refl, refl)))

@@ -4,11 +4,11 @@ use Prim.Native.Nat.{ℕ, _+_, _≤_, _<_}
 use mathlib.Core.Path.{_≡_, ap, sym, _∙_, subst}
 use native.Mathlib.Omega.{arith}
 use lib.IntN.{ℤ, pos, natAbs, _+ℤ_, _-ℤ_, _*ℤ_}
-use Rattle.whole.specs.Arith.{neg, plus, minus, floorDiv, scaled}
+use Rattle.whole.specs.Arith.{neg, floorDiv, scaled}
 use Rattle.whole.proofs.Ints.{size-is, add-is, sub-is, mul-plus, mul-minus, floor-size, same}
 use Rattle.carbon.specs.Weiss.{byCold, byLog, bySalt, fine, lnK0}
 use Rattle.carbon.proofs.Series.{byCold-small, byLog-small}
-use Rattle.carbon.proofs.Salt.{row, row-is, salt-small}
+use Rattle.carbon.proofs.Salt.{row-is, salt-small}
 
 -- the scaled product by 1 is the quotient
 times-one : (z : ℤ) → z *ℤ pos 1 ≡ z

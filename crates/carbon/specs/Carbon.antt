@@ -1,4 +1,5 @@
--- Document 02, Q-2: what is answered for what stands in a channel. The pressure is not read; 4 is for temperatures below 0 °C too.
+-- SPEC, "How much carbon dioxide it will hold": what is answered for what stands in a channel. The pressure is not read; 4 is for temperatures below
+-- 0 °C too.
 use Prim.Native.Nat.{ℕ}
 use lib.IntN.{ℤ, pos}
 use Rattle.whole.specs.Arith.{plus}

@@ -1,9 +1,10 @@
--- How much carbon dioxide a water will hold: ln K0 of Weiss (1974), Mar. Chem. 2: 203-215, as the handbook of CO2 measurements prints it
--- (source 001, equation (30)), T being the temperature in kelvin and S the salinity:
+-- SPEC, "How much carbon dioxide it will hold": ln K0 of Weiss (1974), Mar. Chem. 2: 203-215, as the handbook of CO2 measurements prints it in its
+-- equation (30). T is the temperature in kelvin and S the salinity; K0 is in moles in a kilogram of the water for each atmosphere:
 --
 --     ln K0 = 93.4517·(100/T) − 60.2409 + 23.3585·ln(T/100) + S·(0.023517 − 0.023656·(T/100) + 0.0047036·(T/100)²)
 --
--- in whole numbers: σ is the grid salinity, n is T in 0.001 K, all else is in units of 10⁻¹¹, and every division is rounded down. Digits as printed.
+-- in whole numbers: σ is the grid salinity, n is T in 0.001 K; up to the last definition all else is in units of 10⁻¹¹, and every division is
+-- rounded down. Digits as printed.
 use Prim.Native.Nat.{ℕ, zero, suc, _+_, _*_, _-_, _/_, _^_}
 use mathlib.Core.Bool.{cond}
 use mathlib.Core.List.{List, [], _∷_}
@@ -12,6 +13,13 @@ use lib.IntN.{ℤ, pos, _+ℤ_}
 use Rattle.whole.specs.Arith.{neg, plus, floorDiv, scaled, rowValue}
 
 -- ---- the logarithm
+-- the numbers of terms, of the series for ln 3 and of the one for the rest: from 0 to 40 °C any further term would be 0
+abbrev pub lnTerms : ℕ
+lnTerms = 16
+
+abbrev pub restTerms : ℕ
+restTerms = 4
+
 -- p/d + p·(a/b)/(d + 2) + p·(a/b)²/(d + 4) and on, k terms: each power is the one before times a/b
 unfoldable pub terms : ℕ → ℕ → ℕ → ℕ → ℕ → ℕ
 terms a b zero d p = 0
@@ -21,13 +29,13 @@ terms a b (suc k) d p = p / d + terms a b k (d + 2) (p * a / b)
 unfoldable pub odd : ℕ → ℕ → ℕ → ℕ
 odd X Y k = terms (X * X) (Y * Y) k 1 (10 ^ 11 * X / Y)
 
--- ln 3 is twice the series in one half, 16 terms: the next is 0
+-- ln 3 is twice the series in one half
 unfoldable pub ln3 : ℕ
-ln3 = 2 * odd 1 2 16
+ln3 = 2 * odd 1 2 lnTerms
 
--- ln(T/100) is ln 3 plus twice the series in (T − 300)/(T + 300), 4 terms: the next is 0. Below 300 K the series is below 0
+-- ln(T/100) is ln 3 plus twice the series in (T − 300)/(T + 300). Below 300 K the series is below 0
 unfoldable pub lnT : ℕ → ℕ
-lnT n = cond (ltb n 300_000) (ln3 - 2 * odd (300_000 - n) (n + 300_000) 4) (ln3 + 2 * odd (n - 300_000) (n + 300_000) 4)
+lnT n = cond (ltb n 300_000) (ln3 - 2 * odd (300_000 - n) (n + 300_000) restTerms) (ln3 + 2 * odd (n - 300_000) (n + 300_000) restTerms)
 
 -- ---- the equation
 -- 93.4517·(100/T), 100/T being 100,000/n

@@ -38,6 +38,9 @@ impl Solubility {
     }
 }
 
+// ln 3 in 10^-11, from 16 terms of its series.
+const LN3: u64 = 109_861_228_850;
+
 // The odd series in x/y, four terms, in 10^-11.
 fn odd_series(x: u64, y: u64) -> u64
     requires { ⌜ x ≤ 26_850 ⌝ ∗ ⌜ 573_150 ≤ y ⌝ ∗ ⌜ y ≤ 613_150 ⌝ }
@@ -64,12 +67,12 @@ fn ln_t(n: u64) -> u64
     };
     let twice = 2 * odd_series(x, n + 300_000);
     if n < 300_000 {
-        return 109_861_228_850 - twice;
+        return LN3 - twice;
     }
-    109_861_228_850 + twice
+    LN3 + twice
 }
 
-// What does not hang on the salinity, but for the constant.
+// The two terms of the temperature alone.
 fn by_warmth(n: u64) -> u64
     requires { ⌜ 273_150 ≤ n ⌝ ∗ ⌜ n ≤ 313_150 ⌝ }
     ensures { λ r. ⌜ r ≡ byCold n + byLog n ⌝ }

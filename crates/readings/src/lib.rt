@@ -195,7 +195,7 @@ fn placed_at_surface(salinity: f32, temperature: f32, purpose: Purpose) -> Check
     Checked::Taken(Point { sigma, tau, pi: 0 })
 }
 
-// Checks 2 to 4 of a reading at the surface: what a purpose asks for that reads no pressure.
+// Checks 2 to 4 of a reading at the surface, for a purpose that reads no pressure. It is no case of `check`, which would test the pressure too.
 pub fn check_surface(salinity: f32, temperature: f32, purpose: Purpose) -> Checked
     ensures { λ r. ⌜ r ≡ checkedFor purpose (Report.Surface salinity temperature) ⌝ }
 {

@@ -8,6 +8,9 @@ use Rattle.channels.specs.Numbers.{needleNumber}
 use Rattle.panel.specs.Panel.{comparisonOf}
 use Rattle.panel.proofs.paired.Reads as paired
 use Rattle.abi.specs.Abi.{entryOf, comparisonWords}
+use Rattle.carbon.specs.Carbon.{solubilityOf, solubilityNumber, solubilityValue}
+use Rattle.carbon.proofs.answer.Reads as answer
+use Rattle.warpsorrel.proofs.warpsorrel_co2.Reads as co2
 use Rattle.warpsorrel.proofs.warpsorrel_needle.Reads as needle
 
 pub needle-told :
@@ -19,3 +22,11 @@ needle-told κs a r s told κs′ b m t paired-told left right =
     let e = sym (paired-told ∙ ap₂ comparisonOf left right) in
     let out = a .1 .1 .1 .1 .1 .1 .1 .1 .0 .now in
     (told .0 ∙ ap (λ (x : Comparison). needleNumber (x .needle)) e, told .1 ∙ ap (λ (x : Comparison). sets out 0 (comparisonWords x)) e)
+
+-- and the call for carbon dioxide what `carbon::answer` tells of the same report
+pub co2-told :
+    (κs : Lifetimes.Lfts 1) (a : _) (r : _) (s : _) → co2.Learnt κs a r s → (κs′ : Lifetimes.Lfts 0) (b : _) (g : _) (t : _) → answer.Learnt κs′ b g t →
+    b .0 ≡ entryOf (a .0) (a .1 .0) (a .1 .1 .0) (a .1 .1 .1 .0) → (r ≡ solubilityNumber g) × (s .1 .1 .1 .1 .0 .now ≡ solubilityValue g)
+co2-told κs a r s told κs′ b g t answered e =
+    let f = sym (answered ∙ ap solubilityOf e) in
+    (told .0 ∙ ap solubilityNumber f, told .1 ∙ ap solubilityValue f)

@@ -1,5 +1,5 @@
--- ln(T/100) in whole numbers against the exact one, from 0 to 40 °C and in units of 10⁻¹¹: 24 below to 140 above, most of it what the rounding
--- of ln 3 may come to. Assumes nothing.
+-- ln(T/100) in whole numbers against the exact one, from 0 to 40 °C and in units of 10⁻¹¹: at most 140 too low, most of it what ln 3 may be too
+-- low by, and 24 too high. Assumes nothing.
 use Prim.Native.Nat.{ℕ, _+_, _*_, _-_, _/_, _^_, _≤_, _<_}
 use mathlib.Core.Path.{_≡_, refl, ap, subst}
 use mathlib.Core.Bool.{Bool, true, false, not, cond}

@@ -69,7 +69,12 @@ wider {c} {d} {c′} {d′} above wide w j k σ n hj hk g =
 pub within-two : WithinTwo
 within-two = wider (omega arith) (omega arith) within-kept
 
--- ---- what the words say: the equation is a fraction, with any numbers of terms
+-- ---- what the words say
+-- within is within on both sides
+pub ln-both : (e : Frac) (z : ℤ) (f : Frac) → LnWithin e z f → (f ≤F units 1_000_000 z ⊕ e) × (units 1_000_000 z ≤F f ⊕ e)
+ln-both e z f w = (w .upper, w .lower)
+
+-- the equation is a fraction, with any numbers of terms
 module _ (z : Frac) (hz : 0 < z .den) where
   terms-fraction : (k d : ℕ) (p : Frac) → 0 < d → 0 < p .den → 0 < (termsF z k d p) .den
   unfolding termsF _⊕_ _⊗_

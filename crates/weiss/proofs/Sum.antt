@@ -1,5 +1,5 @@
--- ln K0 before it is rounded to millionths, against equation (30), in units of 10⁻¹¹: at most 561 below and 3,277 above, nearly all of it 23.3585 times
--- the logarithm's. Assumes nothing.
+-- ln K0 before it is rounded to millionths, against equation (30), in units of 10⁻¹¹: at most 3,277 too low and 561 too high, nearly all of it
+-- 23.3585 times the logarithm's. Assumes nothing.
 use Prim.Native.Nat.{ℕ, _*_, _^_, _≤_, _<_}
 use mathlib.Core.Path.{_≡_, refl, ap}
 use native.Mathlib.Omega.{arith}

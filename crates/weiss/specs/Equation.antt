@@ -1,10 +1,10 @@
--- Equation (30) of source 001 in exact fractions, and how near the panel's ln K0 is promised to be. Proved in proofs/Promises; of what is answered
+-- Equation (30) of the handbook of CO2 measurements in exact fractions, and how near the panel's ln K0 is promised to be. Proved in proofs/Promises; of what is answered
 -- in proofs/Calls, there also from the contract of `carbon::answer`.
 use Prim.Native.Nat.{ℕ, zero, suc, _+_, _^_, _≤_, _<_}
 use mathlib.Core.Path.{_≡_}
 use mathlib.Core.Option.{some}
 use lib.IntN.{ℤ, pos, _-ℤ_}
-use Rattle.whole.specs.Arith.{neg, plus}
+use Rattle.whole.specs.Arith.{neg, plus, minus}
 use Rattle.whole.specs.Fraction.{Frac, over, units, _≤F_, _⊕_, _⊖_, _⊗_}
 use Rattle.floats.specs.Grid.{gridNo}
 use Rattle.readings.specs.declared.Report.{Report}
@@ -12,7 +12,7 @@ use Rattle.readings.specs.declared.Reading.{Reading}
 use Rattle.readings.specs.declared.Entry.{Entry}
 use Rattle.readings.specs.Check.{givenOf}
 use Rattle.carbon.specs.declared.Solubility.the-variants.{Known}
-use Rattle.carbon.specs.Weiss.{kelvin, lnK0}
+use Rattle.carbon.specs.Weiss.{lnTerms, restTerms, kelvin, lnK0}
 use Rattle.carbon.specs.Carbon.{solubilityOf}
 
 -- p/d + p·z/(d + 2) + p·z²/(d + 4) and on, k terms
@@ -57,11 +57,11 @@ pub record LnWithin (e : Frac) (z : ℤ) (f : Frac) : Type 0 where
   pub upper : f ≤F units 1_000_000 z ⊕ e
   pub lower : units 1_000_000 z ≤F f ⊕ e
 
--- from the definition's numbers of terms on, 16 and 4, with any numbers of terms, ln K0 is within e of the equation
+-- for all numbers of terms from the definition's own on, ln K0 is within e of the equation
 abbrev pub CarbonWithin : Frac → Type 0
-CarbonWithin e = (j k σ n : ℕ) → 16 ≤ j → 4 ≤ k → Mild σ n → LnWithin e (lnK0 σ n) (equation30 j k σ n)
+CarbonWithin e = (j k σ n : ℕ) → lnTerms ≤ j → restTerms ≤ k → Mild σ n → LnWithin e (lnK0 σ n) (equation30 j k σ n)
 
--- document 02's 2 millionths
+-- SPEC's 2 millionths
 abbrev pub WithinTwo : Type 0
 WithinTwo = CarbonWithin (over 2 1_000_000)
 
@@ -69,9 +69,14 @@ WithinTwo = CarbonWithin (over 2 1_000_000)
 abbrev pub WithinKept : Type 0
 WithinKept = CarbonWithin (over 540 1_000_000_000)
 
--- of what is answered: a value for a report of the reading r is within e of the equation at the reading's own salinity and temperature, put on the
--- grid
+-- what a value z for the reading r says: its salinity and temperature on the grid are not below 0, and z is within e of the equation there
+pub record Held (e : Frac) (j k : ℕ) (r : Reading) (z : ℤ) : Type 0 where
+  pub salinity-low : minus (gridNo 1000 (r .salinity)) ≡ 0
+  pub temperature-low : minus (gridNo 1000 (r .temperature)) ≡ 0
+  pub near : LnWithin e z (equation30 j k (plus (gridNo 1000 (r .salinity))) (kelvin (gridNo 1000 (r .temperature))))
+
+-- of what is answered
 abbrev pub HeldWithin : Frac → Type 0
 HeldWithin e =
-    (report : Report) (r : Reading) (z : ℤ) (j k : ℕ) → givenOf report ≡ some r → Known z ≡ solubilityOf (Entry.Reading report) → 16 ≤ j → 4 ≤ k →
-    LnWithin e z (equation30 j k (plus (gridNo 1000 (r .salinity))) (kelvin (gridNo 1000 (r .temperature))))
+    (report : Report) (r : Reading) (z : ℤ) (j k : ℕ) → givenOf report ≡ some r → Known z ≡ solubilityOf (Entry.Reading report) → lnTerms ≤ j → restTerms ≤ k →
+    Held e j k r z
