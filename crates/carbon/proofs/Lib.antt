@@ -1,4 +1,5 @@
 pub mod Series
+pub mod Terms
 pub mod Salt
 pub mod Sum
 pub mod Answers

@@ -3,8 +3,8 @@
 --
 --     ln K0 = 93.4517·(100/T) − 60.2409 + 23.3585·ln(T/100) + S·(0.023517 − 0.023656·(T/100) + 0.0047036·(T/100)²)
 --
--- in whole numbers: σ is the grid salinity, n is T in 0.001 K; up to the last definition all else is in units of 10⁻¹¹, and every division is
--- rounded down. Digits as printed.
+-- in whole numbers: σ is the grid salinity, n is T in 0.001 K; up to `fine` all else is in units of 10⁻¹¹, and every division is rounded down.
+-- Digits as printed.
 use Prim.Native.Nat.{ℕ, zero, suc, _+_, _*_, _-_, _/_, _^_}
 use mathlib.Core.Bool.{cond}
 use mathlib.Core.List.{List, [], _∷_}
@@ -13,7 +13,8 @@ use lib.IntN.{ℤ, pos, _+ℤ_}
 use Rattle.whole.specs.Arith.{neg, plus, floorDiv, scaled, rowValue}
 
 -- ---- the logarithm
--- the numbers of terms, of the series for ln 3 and of the one for the rest: from 0 to 40 °C any further term would be 0
+-- the numbers of terms, of the series for ln 3 and of the one for the rest. (From 0 to 40 °C any further term would be 0: `no-more-ln3` and
+-- `no-more-rest` of proofs/Terms.)
 abbrev pub lnTerms : ℕ
 lnTerms = 16
 

@@ -3,7 +3,7 @@ ghost use mathlib.Core.Path.{_≡_};
 ghost use Prim.Native.Nat.{_+_, _≤_};
 ghost use lib.IntN.{natAbs};
 ghost use Rattle.whole.specs.Arith.{plus, minus, scaled, rowValue};
-ghost use Rattle.carbon.specs.Weiss.{odd, lnT, byCold, byLog, salts, kelvin, lnK0};
+ghost use Rattle.carbon.specs.Weiss.{restTerms, odd, lnT, byCold, byLog, salts, kelvin, lnK0};
 ghost use Rattle.carbon.specs.Carbon.{unpressed, solubilityOf, solubilityNumber, solubilityValue};
 use readings::Checked;
 use readings::Entry;
@@ -44,7 +44,7 @@ const LN3: u64 = 109_861_228_850;
 // The odd series in x/y, four terms, in 10^-11.
 fn odd_series(x: u64, y: u64) -> u64
     requires { ⌜ x ≤ 26_850 ⌝ ∗ ⌜ 573_150 ≤ y ⌝ ∗ ⌜ y ≤ 613_150 ⌝ }
-    ensures { λ r. ⌜ r ≡ odd x y 4 ⌝ }
+    ensures { λ r. ⌜ r ≡ odd x y restTerms ⌝ }
 {
     let a = x * x;
     let b = y * y;
