@@ -140,7 +140,7 @@ refused-only σ τ π r e = go (rangeOf (pos 0) (pos 42_000) σ) (rangeOf (neg 2
     go Inside Inside Inside p q s e = absurd (unknown e)
 
 -- and a reason is enough
-not-outside : (lo hi z : ℤ) → ¬ (Lies lo hi z) → rangeOf lo hi z ≡ Outside
+pub not-outside : (lo hi z : ℤ) → ¬ (Lies lo hi z) → rangeOf lo hi z ≡ Outside
 not-outside lo hi z n = go (rangeOf lo hi z) refl
   where
     go : (x : InRange) → rangeOf lo hi z ≡ x → x ≡ Outside

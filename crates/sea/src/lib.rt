@@ -216,7 +216,7 @@ fn sounded(sigma: i64, tau: i64, pi: i64, deep: i64) -> Sounding
 }
 
 // Whether z is from low to high, ends included.
-fn within(z: i64, low: i64, high: i64) -> InRange
+pub fn within(z: i64, low: i64, high: i64) -> InRange
     ensures { λ r. ⌜ r ≡ rangeOf low high z ⌝ }
 {
     if low <= z {

@@ -5,5 +5,6 @@ pub mod Row
 pub mod Interval
 pub mod Near
 pub mod Roots
-mod Shifts
+pub mod Lines
+pub mod Cases
 pub mod One

@@ -1,13 +1,12 @@
--- The root by trial bits is the greatest whole number whose square is at most n, and the only one. `Trial n k w` says that the bits
+-- The root by trial bits is the greatest whole number whose square is at most n, and the only one. `Settled n k w` says that the bits
 -- from place k on are settled: w is at most the root, and the root is below w + 2ᵏ. Assumes nothing.
-use mathlib.Core.Path.{_≡_, sym, ap, _∙_, subst}
+use mathlib.Core.Path.{_≡_, _∙_}
 use mathlib.Core.Bool.{Bool, true, false, not, cond}
-use Prim.Native.Nat.{ℕ, zero, suc, _+_, _*_, _-_, _/_, _^_, _<_, _≤_}
+use Prim.Native.Nat.{ℕ, zero, suc, _+_, _*_, _^_, _<_, _≤_}
 use native.Mathlib.Omega.{arith}
 use native.Mathlib.Decide.{decLe}
-use native.Mathlib.Nat.{mul-le-mul, pow-suc}
-use lib.Count.{leadingZeros, leading-length}
-use lib.Pow.{pow-pos, pow-mono, pow-add}
+use native.Mathlib.Nat.{mul-le-mul, mul-add, add-mul, pow-suc}
+use lib.Pow.{pow-mono, pow-add}
 use lib.Dec.{T, leb, lit≤, leb→le, nleb→lt}
 use Rattle.whole.specs.Arith.{rootOf, rootFrom}
 
@@ -16,79 +15,61 @@ pub record Root (w n : ℕ) : Type 0 where
   pub low : w * w ≤ n
   pub high : n < (w + 1) * (w + 1)
 
-pub record Trial (n k w : ℕ) : Type 0 where
+pub record Settled (n k w : ℕ) : Type 0 where
   pub low : w * w ≤ n
   pub high : n < (w + 2 ^ k) * (w + 2 ^ k)
   pub top : w + 2 ^ k ≤ 2 ^ 32
-  pub few : k ≤ 32
 
--- half the bits of n, rounded up, are enough
-pub trial-start : (n : ℕ) → n < 2 ^ 64 → Trial n ((65 - leadingZeros 64 n) / 2) 0
-trial-start n h =
-    let l = leading-length 64 n h in
-    let k = (65 - leadingZeros 64 n) / 2 in
-    let few : k ≤ 32 = omega (arith, l .1) in
-    let far : l .0 ≤ k + k = omega (arith, l .1) in
+pub settled-start : (n k : ℕ) → n < 2 ^ (k + k) → k ≤ 32 → Settled n k 0
+settled-start n k h few =
     let z : 0 + 2 ^ k ≡ 2 ^ k = omega arith in
-    record {
-      low = omega arith;
-      high = rw (z, ← pow-add 2 k k) (omega (arith, l .2, pow-mono far));
-      top = omega (arith, pow-mono few);
-      few = few;
-    }
+    record { low = omega arith; high = rw (z, ← pow-add 2 k k) h; top = omega (arith, pow-mono few) }
 
-pub halves : (k : ℕ) → 0 < k → 2 ^ (k - 1) + 2 ^ (k - 1) ≡ 2 ^ k
-halves k h =
-    let e : k ≡ suc (k - 1) = omega arith in
-    sym (ap (λ (n : ℕ). 2 ^ n) e ∙ pow-suc 2 (k - 1) ∙ omega arith)
+pub twice : (k : ℕ) → 2 ^ suc k ≡ 2 ^ k + 2 ^ k
+twice k = pow-suc 2 k ∙ omega arith
 
-module _ (n k w : ℕ) (t : Trial n k w) (h : 0 < k) where
-  pub trial-below : w + 2 ^ (k - 1) < 2 ^ 32
-  trial-below = omega (arith, halves k h, t .top, pow-pos (k - 1))
+-- the bit at place k is kept, or it is not
+module _ (n k w : ℕ) (s : Settled n (suc k) w) where
+  pub settled-kept : (w + 2 ^ k) * (w + 2 ^ k) ≤ n → Settled n k (w + 2 ^ k)
+  settled-kept l =
+      let e : w + 2 ^ k + 2 ^ k ≡ w + 2 ^ suc k = omega (arith, twice k) in
+      record { low = l; high = rw e (s .high); top = omega (arith, e, s .top) }
 
-  -- the bit at place k − 1 is kept, or it is not
-  pub trial-taken : (w + 2 ^ (k - 1)) * (w + 2 ^ (k - 1)) ≤ n → Trial n (k - 1) (w + 2 ^ (k - 1))
-  trial-taken l =
-      let e : w + 2 ^ (k - 1) + 2 ^ (k - 1) ≡ w + 2 ^ k = omega (arith, halves k h) in
-      record { low = l; high = rw e (t .high); top = omega (arith, e, t .top); few = omega (arith, t .few) }
+  pub settled-left : n < (w + 2 ^ k) * (w + 2 ^ k) → Settled n k w
+  settled-left g = record { low = s .low; high = g; top = omega (arith, twice k, s .top) }
 
-  pub trial-left : n < (w + 2 ^ (k - 1)) * (w + 2 ^ (k - 1)) → Trial n (k - 1) w
-  trial-left g = record { low = t .low; high = g; top = omega (arith, trial-below); few = omega (arith, t .few) }
-
-pub trial-end : (n k w : ℕ) → Trial n k w → k ≤ 0 → Root w n
-trial-end n k w t h =
-    let e : k ≡ 0 = omega arith in
-    record { low = t .low; high = subst (λ (j : ℕ). n < (w + 2 ^ j) * (w + 2 ^ j)) e (t .high) }
+pub settled-end : (n w : ℕ) → Settled n 0 w → Root w n
+settled-end n w s = record { low = s .low; high = s .high }
 
 -- ---- the definition
-either : (b : Bool) (x y : ℕ) (P : ℕ → Type 0) → (T b → P x) → (T (not b) → P y) → P (cond b x y)
+pub either : {A : Type 0} (b : Bool) (x y : A) (P : A → Type 0) → (T b → P x) → (T (not b) → P y) → P (cond b x y)
 either true x y P f g = f tt
 either false x y P f g = g tt
 
-trial-root : (k w n : ℕ) → Trial n k w → Root (rootFrom k w n) n
+settled-root : (k w n : ℕ) → Settled n k w → Root (rootFrom k w n) n
 unfolding rootFrom
-trial-root zero w n t = trial-end n 0 w t (lit≤ tt)
-trial-root (suc k) w n t =
-    let e : suc k - 1 ≡ k = omega arith in
-    let h : 0 < suc k = omega arith in
+settled-root zero w n s = settled-end n w s
+settled-root (suc k) w n s =
     let q = (w + 2 ^ k) * (w + 2 ^ k) in
     either (leb q n) (w + 2 ^ k) w (λ (v : ℕ). Root (rootFrom k v n) n)
-    (λ l. trial-root k (w + 2 ^ k) n (rw e at (trial-taken n (suc k) w t h (rw e (leb→le q n l)))))
-    (λ l. trial-root k w n (rw e at (trial-left n (suc k) w t h (rw e (nleb→lt q n l)))))
+    (λ l. settled-root k (w + 2 ^ k) n (settled-kept n k w s (leb→le q n l)))
+    (λ l. settled-root k w n (settled-left n k w s (nleb→lt q n l)))
 
 pub root-is : (n : ℕ) → n < 2 ^ 64 → Root (rootOf n) n
 unfolding rootOf
-root-is n h = trial-root 32 0 n (record { low = omega arith; high = omega arith; top = lit≤ tt; few = lit≤ tt })
+root-is n h = settled-root 32 0 n (settled-start n 32 h (lit≤ tt))
 
--- a number whose square is at most n is at most any root
-below-root : (v w n : ℕ) → v * v ≤ n → n < (w + 1) * (w + 1) → v ≤ w
-below-root v w n l h = go (decLe v w)
+-- a number whose square is at most n is less than one whose square is more
+pub square-less : (v w n : ℕ) → v * v ≤ n → n < w * w → v < w
+square-less v w n l h = go (decLe w v)
   where
-    go : Dec (v ≤ w) → v ≤ w
-    go (yes p) = p
-    go (no p) =
-        let g : w + 1 ≤ v = omega arith in
-        absurd (omega (arith, mul-le-mul g g))
+    go : Dec (w ≤ v) → v < w
+    go (yes p) = absurd (omega (arith, mul-le-mul p p))
+    go (no p) = omega arith
+
+-- so it is at most any root
+below-root : (v w n : ℕ) → v * v ≤ n → n < (w + 1) * (w + 1) → v ≤ w
+below-root v w n l h = omega (arith, square-less v (w + 1) n l h)
 
 pub root-greatest : (n : ℕ) → n < 2 ^ 64 → (v : ℕ) → v * v ≤ n → v ≤ rootOf n
 root-greatest n h v l = below-root v (rootOf n) n l ((root-is n h) .high)
@@ -98,3 +79,9 @@ root-only w v n a b = omega (arith, below-root w v n (a .low) (b .high), below-r
 
 pub root-below : (w v n : ℕ) → Root w n → n < (v + 1) * (v + 1) → w ≤ v
 root-below w v n r h = below-root w v n (r .low) h
+
+-- one squaring is enough to check a root and its rest
+pub root-squared : (w rest n : ℕ) → n < 2 ^ 64 → w * w + rest ≡ n → rest ≤ 2 * w → w ≡ rootOf n
+root-squared w rest n h e l =
+    let q : (w + 1) * (w + 1) ≡ w * w + 2 * w + 1 = omega (arith, mul-add (w + 1) w 1, add-mul w 1 w) in
+    root-only w (rootOf n) n (record { low = omega arith; high = omega (arith, q) }) (root-is n h)

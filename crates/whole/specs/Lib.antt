@@ -1,3 +1,4 @@
 pub mod Arith
+pub mod Paper
 pub mod Order
 pub mod Fraction

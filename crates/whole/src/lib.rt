@@ -1,10 +1,11 @@
 // Whole-number arithmetic: the scaled product, a row's value, the root. The inside of the engine: what each
 // function asks for keeps its words from overflowing, and the calls above it see to it.
 ghost use mathlib.Core.Path.{_≡_};
-ghost use Prim.Native.Nat.{ℕ, _*_, _<_, _≤_, _^_};
+ghost use Prim.Native.Nat.{ℕ, _+_, _*_, _<_, _≤_, _^_};
 ghost use lib.IntN.{_+ℤ_, natAbs};
 ghost use lib.ListN.{drop};
 ghost use Rattle.whole.specs.Arith as the;
+ghost use Rattle.whole.specs.Paper as paper;
 
 // The scaled product of h by x. The offset makes the dividend positive, so that one unsigned division rounds
 // towards minus infinity with no test of a sign.
@@ -39,29 +40,87 @@ pub fn row_value(row: [i64; 6], t: i64) -> i64
     h
 }
 
-// The greatest whole number whose square is at most n. The leading bit of n fixes the first trial bit. With j bits
-// left, b is a quarter of 4 to the j (0 when none is left), r is the root so far times 2 to the j, and rest is what n
-// exceeds its square by.
+// A line of the search for a root, as it is worked out on paper (docs/ROOT.md).
+pub struct Trial {
+    pub bit: u64,
+    pub rest: u64,
+    pub root: u64,
+}
+
+impl Trial {
+    // The first line of n: its leading bit fixes the first trial bit.
+    pub fn first(n: u64) -> Trial
+        requires { ⌜ n < 2 ^ 62 ⌝ }
+        ensures { λ t. ⌜ t ≡ paper.begun n ⌝ }
+    {
+        let pairs = (65 - u64::leading_zeros(n)) >> 1;
+        let bit: u64 = (1 << (pairs << 1)) >> 2;
+        Trial {
+            bit,
+            rest: n,
+            root: 0,
+        }
+    }
+
+    // The line after a trial.
+    pub fn tried(self) -> Trial
+        requires { ⌜ self .root + self .bit < 2 ^ 64 ⌝ }
+        ensures { λ t. ⌜ t ≡ paper.tried self ⌝ }
+    {
+        let sum = self.root + self.bit;
+        let half = self.root >> 1;
+        let bit = self.bit >> 2;
+        if self.rest < sum {
+            Trial {
+                bit,
+                rest: self.rest,
+                root: half,
+            }
+        } else {
+            Trial {
+                bit,
+                rest: self.rest - sum,
+                root: half + self.bit,
+            }
+        }
+    }
+}
+
+// The line of n after so many trials; past the last one nothing changes.
+pub fn trial_after(n: u64, trials: u32) -> Trial
+    requires { ⌜ n < 2 ^ 62 ⌝ }
+    ensures { λ t. ⌜ t ≡ paper.after trials n ⌝ }
+{
+    let mut at = Trial::first(n);
+    let mut done: u32 = 0;
+    while done < trials {
+        if at.bit == 0 {
+            return at;
+        }
+        at = at.tried();
+        done += 1;
+    }
+    at
+}
+
+// The root on paper: a trial after the other until no trial bit is left.
+pub fn searched(n: u64) -> u64
+    requires { ⌜ n < 2 ^ 62 ⌝ }
+    ensures { λ w. ⌜ w ≡ paper.rooted n ⌝ }
+{
+    let mut at = Trial::first(n);
+    while 0 < at.bit {
+        at = at.tried();
+    }
+    at.root
+}
+
+// The greatest whole number whose square is at most n.
 pub fn root(n: u64) -> u64
     requires { ⌜ n < 2 ^ 62 ⌝ }
     ensures { λ w. ⌜ w ≡ the.rootOf n ⌝ }
 {
-    let bits = (65 - u64::leading_zeros(n)) / 2;
-    let mut b: u64 = (1 << (2 * bits)) >> 2;
-    let mut rest = n;
-    let mut r: u64 = 0;
-    while 0 < b {
-        let t = r + b;
-        let half = r >> 1;
-        if rest < t {
-            r = half;
-        } else {
-            rest = rest - t;
-            r = half + b;
-        }
-        b = b >> 2;
-    }
-    r
+    searched(n)
 }
 
 // A number that is not negative, as an unsigned word.
