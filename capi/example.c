@@ -6,6 +6,12 @@
 #include <string.h>
 #include "warpsorrel.h"
 
+/* The root that a salinity's densities use, and a line of its search on paper. */
+struct root {
+    uint32_t refusal;
+    uint64_t root, bit, rest, so_far;
+};
+
 /* A probe's report, or what stands for a record that gave none. */
 struct report {
     const char *name;
@@ -38,6 +44,12 @@ struct pair {
     struct side left, right;
     int64_t needle_refusal, needle;
 };
+
+static struct root root_of(int64_t sigma, uint32_t trials) {
+    uint64_t out[4];
+    uint32_t refusal = warpsorrel_root(sigma, trials, out);
+    return (struct root){refusal, out[0], out[1], out[2], out[3]};
+}
 
 static struct channel channel_of(struct report r) {
     int64_t out[5];
@@ -93,6 +105,13 @@ static void show_grid(int64_t sigma, int64_t tau, int64_t pi) {
     printf("grid %" PRId64 " %" PRId64 " %" PRId64 ": refusal %" PRIu32 ", density %" PRIu32 ", bulk modulus %" PRIu32 "\n", sigma, tau, pi,
            warpsorrel_refusal(sigma, tau, pi), warpsorrel_density(sigma, tau, pi), warpsorrel_bulk(sigma, tau, pi));
     tell(warpsorrel_refusal(sigma, tau, pi));
+}
+
+static void show_root(int64_t sigma, uint32_t trials) {
+    struct root r = root_of(sigma, trials);
+    printf("root of %" PRId64 " after %" PRIu32 " trials: refusal %" PRIu32 ", root %" PRIu64 ", trial bit %" PRIu64 ", rest %" PRIu64
+           ", root so far %" PRIu64 "\n", sigma, trials, r.refusal, r.root, r.bit, r.rest, r.so_far);
+    tell(r.refusal);
 }
 
 static void show_channel(struct report r) {
@@ -169,6 +188,12 @@ int main(void) {
     printf("version %" PRIu32 "\n", warpsorrel_version());
     show_grid(35000, 25000, 100000);
     show_grid(42001, 25000, 100000);
+    show_root(35000, 0);
+    show_root(35000, 1);
+    show_root(35000, 16);
+    show_root(12345, 16);
+    show_root(0, 0);
+    show_root(42001, 16);
 
     const struct report fjord = {"fjord", WARPSORREL_SURFACE, 28.5f, 12.25f, 0};
     const struct report deep = {"deep", WARPSORREL_DEEP, 34.25f, 7.5f, 4};

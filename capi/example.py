@@ -19,6 +19,13 @@ def show_grid(panel: Panel, sigma: int, tau: int, pi: int) -> None:
     tell(refusal)
 
 
+def show_root(panel: Panel, sigma: int, trials: int) -> None:
+    r = panel.root(sigma, trials)
+    numbers = f"root {r.root}, trial bit {r.bit}, rest {r.rest}, root so far {r.so_far}"
+    print(f"root of {sigma} after {trials} trials: refusal {r.refusal:d}, {numbers}")
+    tell(r.refusal)
+
+
 def show_channel(panel: Panel, name: str, report: Report) -> None:
     c = panel.channel(report)
     print(f"{name}: refusal {c.refusal:d}, grid {c.sigma} {c.tau} {c.pi}, density {c.density}, bulk modulus {c.bulk}")
@@ -62,6 +69,9 @@ def main(panel: Panel) -> None:
     print(f"version {panel.version}")
     show_grid(panel, 35_000, 25_000, 100_000)
     show_grid(panel, 42_001, 25_000, 100_000)
+    last = len(panel.root_lines(35_000)) - 1  # the trials that its search takes
+    for sigma, trials in ((35_000, 0), (35_000, 1), (35_000, last), (12_345, 16), (0, 0), (42_001, 16)):
+        show_root(panel, sigma, trials)
 
     fjord = ("fjord", Report.surface(28.5, 12.25))
     deep = ("deep", Report.deep(34.25, 7.5, 4))

@@ -8,6 +8,7 @@ mod panel {
             pub fn warpsorrel_refusal(sigma: i64, tau: i64, pi: i64) -> u32;
             pub fn warpsorrel_density(sigma: i64, tau: i64, pi: i64) -> u32;
             pub fn warpsorrel_bulk(sigma: i64, tau: i64, pi: i64) -> u32;
+            pub fn warpsorrel_root(sigma: i64, trials: u32, out: *mut [u64; 4]) -> u32;
             pub fn warpsorrel_channel(kind: u32, salinity: f32, temperature: f32, pressure: f32, out: *mut [i64; 5]) -> u32;
             pub fn warpsorrel_co2(kind: u32, salinity: f32, temperature: f32, pressure: f32, out: *mut i64) -> u32;
             pub fn warpsorrel_needle(
@@ -92,6 +93,23 @@ mod panel {
         pub fn bulk(self) -> u32 {
             unsafe { abi::warpsorrel_bulk(self.sigma, self.tau, self.pi) }
         }
+    }
+
+    /// The root that a salinity's densities use, and a line of its search on paper.
+    pub struct Root {
+        pub refusal: u32,
+        pub root: u64,
+        pub bit: u64,
+        pub rest: u64,
+        pub so_far: u64,
+    }
+
+    /// The root of a salinity in 0.001, and the line after so many trials.
+    pub fn root(sigma: i64, trials: u32) -> Root {
+        let mut out = [0; 4];
+        let refusal = unsafe { abi::warpsorrel_root(sigma, trials, &mut out) };
+        let [root, bit, rest, so_far] = out;
+        Root { refusal, root, bit, rest, so_far }
     }
 
     /// A probe's report, or why its record gave none.
@@ -234,6 +252,15 @@ fn show_grid(g: Grid) {
     tell(g.refusal());
 }
 
+fn show_root(sigma: i64, trials: u32) {
+    let r = panel::root(sigma, trials);
+    println!(
+        "root of {} after {} trials: refusal {}, root {}, trial bit {}, rest {}, root so far {}",
+        sigma, trials, r.refusal, r.root, r.bit, r.rest, r.so_far
+    );
+    tell(r.refusal);
+}
+
 fn show_channel((name, report): (&str, Report)) {
     let c = report.channel();
     println!("{}: refusal {}, grid {} {} {}, density {}, bulk modulus {}", name, c.refusal, c.at.sigma, c.at.tau, c.at.pi, c.density, c.bulk);
@@ -300,6 +327,12 @@ fn main() {
     println!("version {}", panel::version());
     show_grid(Grid { sigma: 35_000, tau: 25_000, pi: 100_000 });
     show_grid(Grid { sigma: 42_001, tau: 25_000, pi: 100_000 });
+    show_root(35_000, 0);
+    show_root(35_000, 1);
+    show_root(35_000, 16);
+    show_root(12_345, 16);
+    show_root(0, 0);
+    show_root(42_001, 16);
 
     let fjord = ("fjord", Report::Surface { salinity: 28.5, temperature: 12.25 });
     let deep = ("deep", Report::Deep { salinity: 34.25, temperature: 7.5, pressure: 4.0 });

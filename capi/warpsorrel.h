@@ -62,6 +62,12 @@ uint32_t warpsorrel_density(int64_t sigma, int64_t tau, int64_t pi);
 /* The secant bulk modulus in 0.01 bar, rounded down; 0 if refused. */
 uint32_t warpsorrel_bulk(int64_t sigma, int64_t tau, int64_t pi);
 
+/* The root that every density of this salinity uses, and how it is found: a line of its search on paper (docs/ROOT.md), after so many trials. The root w
+ * is the greatest whole number whose square is at most sigma times 100,000. 0, or the refusal 3. out gets w, then the line's trial bit, rest and root so
+ * far; four noughts if refused. The search is over where the trial bit is 0: the root so far is w then, and more trials change nothing. 16 are enough
+ * for every salinity. */
+uint32_t warpsorrel_root(int64_t sigma, uint32_t trials, uint64_t out[4]);
+
 /* ---- Reports: practical salinity, temperature in degrees C, pressure in bar above the atmosphere. The kind is a record's: deep, surface
  * (the pressure is taken as 0 and its float not read), missing (no float is read). Three more, which no record has for a kind, stand for a
  * record that gave no reading: CUT for refusal 6, LENGTH for 8, UNKNOWN for 7 (no float is read). Every other kind is refused by 7 too. */

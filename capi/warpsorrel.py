@@ -35,7 +35,7 @@ from __future__ import annotations
 import ctypes
 import os
 import platform
-from ctypes import POINTER, c_char_p, c_float, c_int64, c_size_t, c_uint32
+from ctypes import POINTER, c_char_p, c_float, c_int64, c_size_t, c_uint32, c_uint64
 from enum import IntEnum
 from operator import index
 from pathlib import Path
@@ -43,8 +43,8 @@ from types import SimpleNamespace
 from typing import Any, NamedTuple, Optional, SupportsIndex, Union
 
 __all__ = [
-    "VERSION", "LINE", "PAGE", "Stream", "Kind", "Refusal", "Co2Refusal", "Report", "Channel", "Co2", "Needle", "Side", "Pair", "Written",
-    "LibraryError", "Panel",
+    "VERSION", "LINE", "PAGE", "Stream", "Kind", "Refusal", "Co2Refusal", "Root", "Report", "Channel", "Co2", "Needle", "Side", "Pair",
+    "Written", "LibraryError", "Panel",
 ]
 
 VERSION = 2
@@ -157,6 +157,22 @@ class Co2Refusal(IntEnum):
         return "the temperature is not from 0 to 40 degrees C" if self is Co2Refusal.TEMPERATURE else Refusal(self).reason
 
 
+class Root(NamedTuple):
+    """The root that every density of a salinity uses, and a line of its search on paper (docs/ROOT.md). Every number is 0 if it is refused.
+
+    root    the greatest whole number whose square is at most sigma times 100,000, whatever the line
+    bit     the line's trial bit; 0 where the search is over
+    rest    the line's rest
+    so_far  the line's root so far, which is `root` where the search is over
+    """
+
+    refusal: Refusal
+    root: int
+    bit: int
+    rest: int
+    so_far: int
+
+
 class Report(NamedTuple):
     """What a probe says, or what stands for a record that gave no reading: `Report(Kind.CUT)`.
 
@@ -266,6 +282,7 @@ _CALLS: dict[str, tuple[Any, ...]] = {
     "refusal": (c_uint32, c_int64, c_int64, c_int64),
     "density": (c_uint32, c_int64, c_int64, c_int64),
     "bulk": (c_uint32, c_int64, c_int64, c_int64),
+    "root": (c_uint32, c_int64, c_uint32, POINTER(c_uint64 * 4)),
     "channel": (c_uint32, *_REPORT, POINTER(c_int64 * 5)),
     "co2": (c_uint32, *_REPORT, POINTER(c_int64)),
     "needle": (c_uint32, *_REPORT, *_REPORT, POINTER(c_int64 * 3)),
@@ -375,6 +392,21 @@ class Panel:
     def bulk(self, sigma: SupportsIndex, tau: SupportsIndex, pi: SupportsIndex) -> int:
         """The secant bulk modulus in 0.01 bar, rounded down, of the same three numbers as `density`; 0 if refused."""
         return int(self._calls.bulk(_signed("sigma", sigma), _signed("tau", tau), _signed("pi", pi)))
+
+    def root(self, sigma: SupportsIndex, trials: SupportsIndex) -> Root:
+        """The root of salinity in 0.001, and the line of its search after so many trials. Refused by SALINITY alone. 16 trials are enough for every
+        salinity, and more change nothing."""
+        out = (c_uint64 * 4)()
+        refusal = self._calls.root(_signed("sigma", sigma), _unsigned("trials", trials), out)
+        return Root(Refusal(refusal), *out)
+
+    def root_lines(self, sigma: SupportsIndex) -> list[Root]:
+        """The lines of that search, one after the other: the first one, then one for each trial, up to the one whose trial bit is 0. So line i is
+        `root(sigma, i)`. No line if refused, and `root` says why; a salinity that is not refused has at least one, and at most 17."""
+        lines = [self.root(sigma, 0)]
+        while lines[-1].bit:
+            lines.append(self.root(sigma, len(lines)))
+        return [] if lines[0].refusal else lines
 
     # ---- reports
 

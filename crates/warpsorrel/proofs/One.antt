@@ -11,6 +11,7 @@ use Rattle.warpsorrel.proofs.warpsorrel_version.Reads as version
 use Rattle.warpsorrel.proofs.warpsorrel_refusal.Reads as refusal
 use Rattle.warpsorrel.proofs.warpsorrel_density.Reads as density
 use Rattle.warpsorrel.proofs.warpsorrel_bulk.Reads as bulk
+use Rattle.warpsorrel.proofs.warpsorrel_root.Reads as root
 use Rattle.warpsorrel.proofs.warpsorrel_channel.Reads as channel
 use Rattle.warpsorrel.proofs.warpsorrel_needle.Reads as needle
 use Rattle.warpsorrel.proofs.warpsorrel_co2.Reads as co2
@@ -37,6 +38,11 @@ one-recorder κs a r r′ s s′ e f = e ∙ sym f
 
 pub one-pairs : (κs : Lifetimes.Lfts 1) (a : _) (r r′ : _) (s s′ : _) → pairs.Learnt κs a r s → pairs.Learnt κs a r′ s′ → r ≡ r′
 one-pairs κs a r r′ s s′ e f = e ∙ sym f
+
+pub one-root :
+    (κs : Lifetimes.Lfts 1) (a : _) (r r′ : _) (s s′ : _) → root.Learnt κs a r s → root.Learnt κs a r′ s′ →
+    (r ≡ r′) × (s .1 .1 .0 .now ≡ s′ .1 .1 .0 .now)
+one-root κs a r r′ s s′ e f = (e .0 ∙ sym (f .0), e .1 ∙ sym (f .1))
 
 pub one-channel :
     (κs : Lifetimes.Lfts 1) (a : _) (r r′ : _) (s s′ : _) → channel.Learnt κs a r s → channel.Learnt κs a r′ s′ →
@@ -87,6 +93,9 @@ free-density κs a = tt
 
 pub free-bulk : (κs : Lifetimes.Lfts 0) (a : _) → bulk.Asked κs a
 free-bulk κs a = tt
+
+pub free-root : (κs : Lifetimes.Lfts 1) (a : _) → root.Asked κs a
+free-root κs a = tt
 
 pub free-channel : (κs : Lifetimes.Lfts 1) (a : _) → channel.Asked κs a
 free-channel κs a = tt

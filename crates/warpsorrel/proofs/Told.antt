@@ -8,10 +8,14 @@ use Rattle.channels.specs.Numbers.{needleNumber}
 use Rattle.panel.specs.Panel.{comparisonOf}
 use Rattle.panel.proofs.paired.Reads as paired
 use Rattle.abi.specs.Abi.{entryOf, comparisonWords}
+use Rattle.roots.specs.Search.{searchOf, searchNumber, searchWords}
+use Rattle.roots.specs.declared.Search.{Search}
+use Rattle.roots.proofs.search_at.Reads as search-at
 use Rattle.carbon.specs.Carbon.{solubilityOf, solubilityNumber, solubilityValue}
 use Rattle.carbon.proofs.answer.Reads as answer
 use Rattle.warpsorrel.proofs.warpsorrel_co2.Reads as co2
 use Rattle.warpsorrel.proofs.warpsorrel_needle.Reads as needle
+use Rattle.warpsorrel.proofs.warpsorrel_root.Reads as root
 
 pub needle-told :
     (κs : Lifetimes.Lfts 1) (a : _) (r : _) (s : _) → needle.Learnt κs a r s → (κs′ : Lifetimes.Lfts 0) (b : _) (m : _) (t : _) → paired.Learnt κs′ b m t →
@@ -30,3 +34,11 @@ pub co2-told :
 co2-told κs a r s told κs′ b g t answered e =
     let f = sym (answered ∙ ap solubilityOf e) in
     (told .0 ∙ ap solubilityNumber f, told .1 ∙ ap solubilityValue f)
+
+-- and the call for a root what `roots::search_at` tells of the same salinity and trials
+pub root-told :
+    (κs : Lifetimes.Lfts 1) (a : _) (r : _) (s : _) → root.Learnt κs a r s → (κs′ : Lifetimes.Lfts 0) (b : _) (g : _) (t : _) → search-at.Learnt κs′ b g t →
+    b .0 ≡ a .0 → b .1 .0 ≡ a .1 .0 → (r ≡ searchNumber g) × (s .1 .1 .0 .now ≡ sets (a .1 .1 .0 .now) 0 (searchWords g))
+root-told κs a r s told κs′ b g t found σ j =
+    let e = sym (found ∙ ap₂ searchOf σ j) in
+    (told .0 ∙ ap searchNumber e, told .1 ∙ ap (λ (x : Search). sets (a .1 .1 .0 .now) 0 (searchWords x)) e)

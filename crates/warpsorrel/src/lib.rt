@@ -5,6 +5,7 @@ ghost use lib.Seq.{sets};
 ghost use Rattle.floats.specs.Recorder.{recorderOf};
 ghost use Rattle.sea.specs.Water.{waterOf};
 ghost use Rattle.waters.specs.Numbers.{waterNumber, waterDensity, waterBulk};
+ghost use Rattle.roots.specs.Search.{searchOf, searchNumber, searchWords};
 ghost use Rattle.carbon.specs.Carbon.{solubilityOf, solubilityNumber, solubilityValue};
 ghost use Rattle.channels.specs.Numbers.{channelNumber, needleNumber};
 ghost use Rattle.panel.specs.Panel.{channelOf, comparisonOf};
@@ -18,6 +19,7 @@ ghost use Rattle.pages.specs.Page.{pageOf, filledOf, filledNumber, filledCount}
 ghost use Rattle.abi.specs.Abi.{version, entryOf, channelWords, comparisonWords, foundNumber, foundWords};
 use channels::Channel;
 use panel::Side;
+use roots::Search;
 use streams::Found;
 
 pub const VERSION: u32 = 2;
@@ -54,6 +56,35 @@ pub extern "C" fn warpsorrel_bulk(sigma: i64, tau: i64, pi: i64) -> u32
     ensures { λ r. ⌜ r ≡ waterBulk (waterOf sigma tau pi) ⌝ }
 {
     sea::water_at(sigma, tau, pi).bulk()
+}
+
+// The root that a salinity's reading uses, and the line of its search after so many trials (docs/ROOT.md): 0 or the refusal 3; out gets the root, the
+// trial bit, the rest and the root so far, four noughts if refused.
+#[no_mangle]
+pub extern "C" fn warpsorrel_root(sigma: i64, trials: u32, out: &mut [u64; 4]) -> u32
+    ensures { λ r. ⌜ r ≡ searchNumber (searchOf sigma trials) ⌝ }
+    ensures { λ r. ⌜ now (out .exit) ≡ sets (now (out .entry)) 0 (searchWords (searchOf sigma trials)) ⌝ }
+{
+    let found = roots::search_at(sigma, trials);
+    match found {
+        Search::Known { root, line } => {
+            let bit = line.bit;
+            let rest = line.rest;
+            let so_far = line.root;
+            out[0] = root;
+            out[1] = bit;
+            out[2] = rest;
+            out[3] = so_far;
+            0
+        }
+        Search::Refused(why) => {
+            out[0] = 0;
+            out[1] = 0;
+            out[2] = 0;
+            out[3] = 0;
+            why.number()
+        }
+    }
 }
 
 // ---- floats: a report's kind is a record's, 1 deep, 2 surface (its pressure is not read), 3 missing (no float is read)
