@@ -27,6 +27,12 @@ struct oracle_co2 {
     int64_t value;
 };
 
+/* The root of a salinity's grid number, and the trial bit, the rest and the root so far of a line of its search on paper; noughts if refused. */
+struct oracle_root {
+    uint32_t refusal;
+    int64_t root, bit, rest, so_far;
+};
+
 size_t oracle_pairs(const uint8_t *stream, size_t length);
 
 /* The pair with so many before it, left then right; 0 where there is none. */
@@ -34,6 +40,12 @@ int oracle_pair(const uint8_t *stream, size_t length, size_t before, struct orac
 
 /* The reports of the pair at a place, which moves past it; 0 at the stream's end. */
 int oracle_next(const uint8_t *stream, size_t length, size_t *at, struct oracle_report reports[2]);
+
+/* The salinity on the grid, whatever the other floats are; -1 where the report has none from 0 to 42. */
+int64_t oracle_sigma(const struct oracle_report *report);
+
+/* The line is that after so many trials. */
+struct oracle_root oracle_root(int64_t sigma, uint32_t trials);
 
 /* By salinity and temperature alone. */
 struct oracle_co2 oracle_co2(const struct oracle_report *report);

@@ -1,7 +1,8 @@
 /* Every input is a stream. Held to the oracle: the count of pairs; the page, its refusal and its count; the first pair, the last, one past
  * the end and two picked by the input's bytes, each by all its words; and channels, needle and line of such a pair's reports; ln K0 of every
- * report, with another pressure as well. The densities and the needle of such a pair are held as well to what is proved of them beside the
- * published formula at the floats as sent, ln K0 to its equation on the grid. The bytes and words past an answer and beside it have to keep
+ * report, with another pressure as well; the root of every report's salinity, and of numbers that are mostly off the grid, with a line of its
+ * search. The densities and the needle of such a pair are held as well to what is proved of them beside the published formula at the floats as
+ * sent, ln K0 to its equation on the grid, a root to the squares on either side. The bytes and words past an answer and beside it have to keep
  * their values; a room that is too short has to be left untouched. The rounding mode and flush-to-zero are the input's choice: they must
  * change nothing. Called with --long, the input is repeated to about 60,000 bytes, the length from which a stream is too long. */
 #include <math.h>
@@ -137,6 +138,30 @@ static void look_at_co2(const struct oracle_report *report) {
     if (!(fabs((double)right.value / 1e6 - oracle_equation(report)) <= 2e-6 + ALLOWANCE / 100)) fail("ln K0 and its equation");
 }
 
+/* Proved: its square is at most sigma times 100,000, and the next one is greater. */
+static void look_at_root(int64_t sigma, uint32_t trials) {
+    struct oracle_root right = oracle_root(sigma, trials);
+    int64_t search[4] = {right.root, right.bit, right.rest, right.so_far}, w = right.root;
+    if (warpsorrel_root(sigma, trials, (uint64_t *)lend_words()) != right.refusal) fail("the refusal of a root");
+    compare_words("a root or a line of its search", search, 4);
+    if (right.refusal) return;
+    if (w * w > sigma * 100000 || (w + 1) * (w + 1) <= sigma * 100000) fail("a root and the squares on either side");
+}
+
+/* As many trials as change something and up to two more, a power of two, or any number. */
+static uint32_t trials_of(uint64_t drawn) {
+    unsigned way = drawn >> 61;
+    return way > 1 ? (uint32_t)(drawn >> 32) % 19 : way == 1 ? UINT32_C(1) << (drawn >> 32) % 32 : (uint32_t)(drawn >> 16);
+}
+
+/* The salinity on the grid; the bits of salinity and temperature as numbers, alone and one before the other. */
+static void look_at_roots(const struct oracle_report *report, uint64_t drawn) {
+    uint64_t bits = report->floats[0];
+    look_at_root(oracle_sigma(report), trials_of(drawn));
+    look_at_root((int64_t)bits, trials_of(drawn * 3));
+    look_at_root((int64_t)(bits | (uint64_t)report->floats[1] << 32), trials_of(drawn * 5));
+}
+
 /* The line is written in a room of WARPSORREL_LINE and in one of lent bytes. */
 static void look_at_pair(const uint8_t *stream, size_t length, size_t before, uint32_t number, size_t lent) {
     struct oracle_report reports[2];
@@ -197,10 +222,20 @@ static void look_at_stream(const uint8_t *stream, size_t length, uint64_t mixed)
     size_t lent = (size_t)(mixed >> 40) % (2 * WARPSORREL_LINE + 1);
     const size_t places[] = {0, pairs - (pairs > 0), pairs, (size_t)(mixed >> 32) % (pairs + 1), (size_t)mixed | SIZE_MAX / 2 + 1};
     for (size_t i = 0; i < sizeof places / sizeof *places; i++) look_at_pair(stream, length, places[i], number, lent);
+    /* numbers at an end of the grid, that come round to it in fewer bits, or anywhere */
+    static const int64_t off[] = {-1, -2, 42001, 42002, -42000, INT64_C(1) << 31, INT64_C(1) << 32, (INT64_C(1) << 32) + 35000, -(INT64_C(1) << 32),
+                                  INT64_MAX, INT64_MIN};
+    uint64_t drawn = mixed;
+    look_at_root(off[(mixed >> 12) % (sizeof off / sizeof *off)], trials_of(mixed));
+    look_at_root((int64_t)mixed, trials_of(mixed * 3));
+    look_at_root((int64_t)(mixed >> 20) % 42001, trials_of(mixed * 5));
     struct oracle_report reports[2];
     for (size_t at = 0; oracle_next(stream, length, &at, reports);) {
-        look_at_co2(&reports[0]);
-        look_at_co2(&reports[1]);
+        for (int i = 0; i < 2; i++) {
+            look_at_co2(&reports[i]);
+            drawn = drawn * 6364136223846793005u + 1442695040888963407u;
+            look_at_roots(&reports[i], drawn);
+        }
     }
 
     const size_t too_short[] = {WARPSORREL_PAGE - 1, (size_t)(calls * 40503 % WARPSORREL_PAGE), 0};

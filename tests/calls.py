@@ -1,12 +1,13 @@
 #!/usr/bin/env python3
-"""Holds the calls on streams, lines and floats, byte for byte, to the model of tests/model.py.
+"""Holds the calls on streams, lines, floats and roots, byte for byte, to the model of tests/model.py.
 
     python3 tests/calls.py COMMAND ...      the command that starts the driver (tests/driver.c)
 
 The version; pairs, pair and page on the hard streams of tests/streams.py and on longer ones; lines of every kind of entry, number and room,
-each with each; every kind of report; ln K0 with every special float in every place, each salinity with each temperature; special floats, waters
-whose ln K0 hangs on the last unit, and waters at two depths, in every rounding mode, with denormals kept and flushed. That nothing else is
-written is the driver's to see: it ends then, which counts as a difference.
+each with each; every kind of report; ln K0 with every special float in every place, each salinity with each temperature; roots of salinities
+from end to end and of numbers off the grid, with every number of trials that changes anything and with greater ones; special floats, waters
+whose ln K0 hangs on the last unit, waters at two depths, and some roots, in every rounding mode, with denormals kept and flushed. That nothing
+else is written is the driver's to see: it ends then, which counts as a difference.
 """
 import random
 import struct
@@ -104,6 +105,10 @@ def recorder_call(shown):
     return Call("recorder", asked(b"r", "I", shown), struct.pack("<I", model.recorder(shown)))
 
 
+def root_call(sigma, trials):
+    return Call("root", asked(b"w", "qI", sigma, trials), words(*model.search(sigma, trials)))
+
+
 def mode_call(mode, was):
     """Answered by the mode that was, so that a call which changes it is seen too."""
     rounding, flush = was
@@ -196,6 +201,22 @@ def co2_calls(rng):
     yield from (co2_call((rng.choice((1, 2, 3)), *(rng.getrandbits(32) for _ in range(3)))) for _ in range(3_000))
 
 
+# ---- roots
+
+TRIALS = [*range(19), 31, 32, 33, 255, 256, 2**16, 2**31, 2**32 - 1]
+OFF_THE_GRID = [-1, -2, 42_001, 42_002, 2**31, 2**32, 2**32 + 1, 2**32 + 35_000, -(2**32), 2**63 - 1, -(2**63)]
+
+
+def root_calls(rng):
+    """Each number of trials with each salinity: some from end to end, the ends and their neighbours, the squares and those that a square is missed
+    by least, where a pair of digits more is; and with numbers off the grid, those among them that come round to it in fewer bits."""
+    squares, more = (10 * k * k for k in range(65)), (4**pairs // 100_000 + up for pairs in range(9, 16) for up in (0, 1))
+    missed = sorted(range(42_001), key=lambda sigma: (model.root(sigma) + 1) ** 2 - sigma * 100_000)[:40]
+    salinities = sorted({*range(0, 42_001, 97), 0, 1, 2, 10, 11, 41_999, 42_000, *squares, *missed, *more})
+    others = [*OFF_THE_GRID, *(rng.randrange(-(2**63), 2**63) for _ in range(200))]
+    yield from (root_call(sigma, trials) for sigma, trials in product([*salinities, *others], TRIALS))
+
+
 # ---- floating-point modes
 
 ROUNDINGS, DENORMALS = ("to nearest", "down", "up", "to zero"), ("kept", "flushed")
@@ -225,6 +246,7 @@ def mode_calls(reports):
         calls += [stream_call(stream), pairs_call(model.pairs(stream)), pair_call(model.pairs(stream), 0)]
     for stream in (b"".join(records), MISSING + b"".join(records)):
         calls += [stream_call(stream), pairs_call(model.pairs(stream)), page_call(model.page(stream), LONGEST_PAGE)]
+    calls += [root_call(sigma, trials) for sigma in (-1, 0, 1, 10, 35_000, 42_000, 42_001) for trials in (0, 1, 8, 15, 16, 17)]
     recorded = [*range(60), *range(999_900, 1_000_100), *range(1_027_600, 1_069_500, 37), *range(16_383_900, 16_384_100), 2**24, 2**32 - 1]
     recorder = [recorder_call(shown) for shown in recorded]
     for mode in MODES:
@@ -233,7 +255,8 @@ def mode_calls(reports):
 
 # ---- the driver
 
-SIZES = {"version": 4, "stream": 0, "pairs": 8, "pair": 72, "channel": 48, "co2": 16, "needle": 32, "recorder": 4, "mode": 4}  # of the answers
+# Of the answers.
+SIZES = {"version": 4, "stream": 0, "pairs": 8, "pair": 72, "channel": 48, "co2": 16, "needle": 32, "recorder": 4, "root": 40, "mode": 4}
 
 
 def taken(what, answers, at):
@@ -299,6 +322,7 @@ def every_batch():
     yield list(kind_calls(rng))
     yield list(co2_calls(rng))
     yield from mode_calls(list(mode_reports(rng)))
+    yield list(root_calls(rng))
 
 
 def main():
@@ -317,7 +341,7 @@ def main():
         print(text)
     print(
         f"calls: {len(streams)} streams, {counts['pair']} pairs, {counts['line']} lines, {counts['page']} pages, {counts['channel']} readings,"
-        f" {counts['co2']} of ln K0, {counts['needle']} needles, some in {len(MODES)} float modes, {len(told)} different"
+        f" {counts['co2']} of ln K0, {counts['needle']} needles, {counts['root']} roots, some in {len(MODES)} float modes, {len(told)} different"
     )
     sys.exit(1 if told else 0)
 

@@ -144,6 +144,17 @@ static void grid_reading(void) {
     give(out, sizeof out);
 }
 
+/* w sigma (int64) trials (uint32): refusal, root, trial bit, rest, root so far (64 bits each) */
+static void root(void) {
+    int64_t sigma, words[6];
+    uint32_t trials;
+    need(&sigma, sizeof sigma);
+    need(&trials, sizeof trials);
+    lend(words, 6);
+    uint32_t refusal = warpsorrel_root(sigma, trials, (uint64_t *)(words + 1));
+    give_lent(refusal, words, 6);
+}
+
 /* c report: refusal, sigma, tau, pi, density, bulk modulus (int64 each) */
 static void channel(void) {
     struct report r = need_report();
@@ -254,6 +265,7 @@ int main(void) {
         switch (letter) {
         case 'v': version(); break;
         case 'g': grid_reading(); break;
+        case 'w': root(); break;
         case 'c': channel(); break;
         case 'o': co2(); break;
         case 'n': needle(); break;

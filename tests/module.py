@@ -14,7 +14,8 @@ import re
 import shutil
 import sys
 import tempfile
-from ctypes import POINTER, c_char_p, c_float, c_int64, c_size_t, c_uint32
+from ctypes import POINTER, c_char_p, c_float, c_int64, c_size_t, c_uint32, c_uint64
+from math import isqrt
 from pathlib import Path
 from unittest import mock
 
@@ -27,7 +28,7 @@ FORMAT = (ROOT / "docs" / "FORMAT.md").read_text("utf-8")
 
 sys.path.insert(0, str(MODULE.parent))
 import warpsorrel  # noqa: E402
-from warpsorrel import Channel, Co2, Co2Refusal, Kind, LibraryError, Needle, Pair, Panel, Refusal, Report, Side, Written  # noqa: E402
+from warpsorrel import Channel, Co2, Co2Refusal, Kind, LibraryError, Needle, Pair, Panel, Refusal, Report, Root, Side, Written  # noqa: E402
 
 NOTHING = "nothing raised"
 held, wrong = 0, []
@@ -103,7 +104,7 @@ def macros():
     hold("and those of ln K0", "the temperature is not from 0 to 40 degrees C", Co2Refusal.TEMPERATURE.reason)
 
 
-TYPES = {"uint32_t": c_uint32, "int64_t": c_int64, "float": c_float, "size_t": c_size_t}
+TYPES = {"uint32_t": c_uint32, "uint64_t": c_uint64, "int64_t": c_int64, "float": c_float, "size_t": c_size_t}
 TYPES |= {"uint8_t *": c_char_p, "size_t *": POINTER(c_size_t), "int64_t *": POINTER(c_int64)}
 
 
@@ -146,6 +147,15 @@ def types_in(answer):
     return [types_in(part) for part in answer] if isinstance(answer, (tuple, list)) else type(answer)
 
 
+def paper(sigma):
+    """The lines of a salinity's search, by what they mean: with j bits of the root to find, those before them are known, and the rest is what their
+    square leaves."""
+    n = sigma * 100_000
+    root = isqrt(n)
+    found = [(j, root >> j << j) for j in range((n.bit_length() + 1) // 2, -1, -1)]
+    return [Root(Refusal.NONE, root, 4**j // 4, n - known * known, known << j) for j, known in found]
+
+
 def answers(panel):
     none, fjord, deep, brine = Report.missing(), Report.surface(28.5, 12.25), Report.deep(34.25, 7.5, 4), Report.deep(42.25, 7.5, 4)
     same("version", 2, panel.version)
@@ -153,6 +163,18 @@ def answers(panel):
     same("refusal", [Refusal.NONE, Refusal.SALINITY], [panel.refusal(35_000, 25_000, 100_000), panel.refusal(42_001, 25_000, 100_000)])
     same("density", 1_062_538, panel.density(35_000, 25_000, 100_000))
     same("bulk", 2_710_894, panel.bulk(35_000, 25_000, 100_000))
+    same("root, the first line", Root(Refusal.NONE, 59_160, 1_073_741_824, 3_500_000_000, 0), panel.root(35_000, 0))
+    same("root, after a trial", Root(Refusal.NONE, 59_160, 268_435_456, 2_426_258_176, 1_073_741_824), panel.root(35_000, 1))
+    same("root, the last line", Root(Refusal.NONE, 64_807, 0, 52_751, 64_807), panel.root(42_000, 16))
+    same("root, more trials", [Root(Refusal.NONE, 64_807, 0, 52_751, 64_807)] * 2, [panel.root(42_000, trials) for trials in (17, 2**32 - 1)])
+    same("root, of fresh water", [Root(Refusal.NONE, 0, 0, 0, 0)] * 2, [panel.root(0, trials) for trials in (0, 16)])
+    for sigma in (-1, 42_001, -(2**63), 2**63 - 1):
+        same(f"root of {sigma}, refused", [Root(Refusal.SALINITY, 0, 0, 0, 0)] * 3, [panel.root(sigma, trials) for trials in (0, 16, 2**32 - 1)])
+        same(f"lines of {sigma}, refused", [], panel.root_lines(sigma))
+    for sigma in (0, 1, 10, 11, 167, 168, 10_737, 10_738, 12_345, 35_000, 42_000):  # the paper of 11 has a line more than that of 10
+        same(f"lines of {sigma}", paper(sigma), panel.root_lines(sigma))
+        same(f"each line of {sigma}", paper(sigma), [panel.root(sigma, trials) for trials in range(len(paper(sigma)))])
+    same("how many lines", [1, 10, 11, 12, 16, 17, 17], [len(panel.root_lines(sigma)) for sigma in (0, 1, 10, 11, 10_737, 10_738, 42_000)])
     same("channel", Channel(Refusal.NONE, 34_250, 7_500, 400, 1_026_941, 2_242_612), panel.channel(deep))
     same("co2", [Co2(Co2Refusal.NONE, -3_162_245), Co2(Co2Refusal.NONE, -3_037_603)], [panel.co2(fjord), panel.co2(deep)])
     same("co2, the handbook's water", Co2(Co2Refusal.NONE, -3_561_652), panel.co2(Report.surface(35, 25)))
@@ -203,6 +225,10 @@ def faults(panel):
         ("sigma", most + 1, (least, most), lambda: panel.refusal(most + 1, 0, 0)),
         ("tau", least - 1, (least, most), lambda: panel.density(0, least - 1, 0)),
         ("pi", 2**64, (least, most), lambda: panel.bulk(0, 0, 2**64)),
+        ("sigma", most + 1, (least, most), lambda: panel.root(most + 1, 16)),
+        ("sigma", least - 1, (least, most), lambda: panel.root_lines(least - 1)),
+        ("trials", -1, (0, 2**32 - 1), lambda: panel.root(35_000, -1)),
+        ("trials", 2**32, (0, 2**32 - 1), lambda: panel.root(35_000, 2**32)),
         ("kind", 2**32 + 1, (0, 2**32 - 1), lambda: panel.channel(Report(2**32 + 1, 35, 5, 0))),
         ("kind", -1, (0, 2**32 - 1), lambda: panel.co2(Report(-1, 35, 5, 0))),
         ("shown", -1, (0, 2**32 - 1), lambda: panel.recorder(-1)),
@@ -215,6 +241,9 @@ def faults(panel):
         ("a salinity that is text", lambda: panel.channel(Report.surface("35", 5))),
         ("a temperature that is text", lambda: panel.co2(Report.surface(35, "5"))),
         ("a grid number with a point", lambda: panel.refusal(35.0, 5, 0)),
+        ("a root's salinity with a point", lambda: panel.root(35.0, 16)),
+        ("trials that are text", lambda: panel.root(35_000, "16")),
+        ("lines of a salinity that is text", lambda: panel.root_lines("35000")),
         ("a stream that is text", lambda: panel.page("text")),
         ("a stream that is a number", lambda: panel.pairs(40)),
     ):

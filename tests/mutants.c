@@ -5,6 +5,7 @@
 #include <xmmintrin.h>
 #include "warpsorrel.h"
 
+__typeof__(warpsorrel_root) __real_warpsorrel_root, __wrap_warpsorrel_root;
 __typeof__(warpsorrel_channel) __real_warpsorrel_channel, __wrap_warpsorrel_channel;
 __typeof__(warpsorrel_co2) __real_warpsorrel_co2, __wrap_warpsorrel_co2;
 __typeof__(warpsorrel_needle) __real_warpsorrel_needle, __wrap_warpsorrel_needle;
@@ -49,6 +50,85 @@ float __wrap_warpsorrel_recorder(uint32_t shown) {
     if (has("recorder: ends one early") && shown == 16383999) return 0;
     if (has("recorder: 0 where denormals are flushed") && flushing()) return 0;
     return __real_warpsorrel_recorder(shown);
+}
+
+/* ---- the root: its search on paper once more, with a slip */
+
+static volatile int past_the_words = 4, before_them = -1; /* unknown to the compiler, which would warn */
+
+/* The line after so many trials: trial bit, rest, root so far. */
+static void search(uint64_t n, uint32_t trials, uint64_t line[3]) {
+    uint64_t bit = 0, rest = n, root = 0;
+    for (uint64_t power = 1; power <= n; power *= 4) bit = power;
+    if (has("search: the first trial bit a pair too high")) bit *= 4;
+    if (has("search: the first trial bit a pair too low")) bit /= 4;
+    if (has("search: the same first trial bit for all") && n) bit = UINT64_C(1) << 30;
+    if (has("search: one trial fewer") && trials) trials -= 1;
+    if (has("search: one trial too many") && trials < UINT32_MAX) trials += 1;
+    uint64_t last = has("search: the last bit never tried") ? 4 : 1;
+    int past_the_last = has("search: trials go on where no bit is left");
+    if (past_the_last && trials > 64) trials = 64;
+    for (; trials && (bit >= last || past_the_last); trials--) {
+        uint64_t sum = root + bit, half = root / 2;
+        if (has("search: a sum that is the rest not kept") ? sum < rest : sum <= rest) {
+            if (!has("search: the rest not reduced")) rest -= has("search: the rest reduced by the bit alone") ? bit : sum;
+            root = has("search: the bit halved with the root") ? sum / 2 : half + bit;
+        } else if (!has("search: the root not halved where the bit is not kept")) {
+            root = half;
+        }
+        bit /= 4;
+    }
+    line[0] = bit;
+    line[1] = rest;
+    line[2] = root;
+}
+
+static uint64_t rooted(uint64_t n) {
+    uint64_t line[3];
+    search(n, 16, line);
+    return line[2];
+}
+
+uint32_t __wrap_warpsorrel_root(int64_t sigma, uint32_t trials, uint64_t out[4]) {
+    uint64_t was[4];
+    memcpy(was, out, sizeof was);
+    if (has("root: the rounding mode changed")) _mm_setcsr(_mm_getcsr() | 0x6000);
+    if (has("root: none where it rounds up") && rounding(2)) sigma = 0;
+    if (has("root: sigma in 32 bits")) sigma = (int32_t)sigma;
+    if (has("root: sigma without its sign") && sigma < 0 && sigma >= -42000) sigma = -sigma;
+    if (has("root: the trials in 8 bits")) trials = (uint8_t)trials;
+    if (has("root: the trials in 16 bits")) trials = (uint16_t)trials;
+    if (has("root: the trials with a sign") && trials > INT32_MAX) trials = 0;
+    if (has("root: a shift by the trials, which comes round at 32")) trials %= 32;
+    uint32_t right = __real_warpsorrel_root(sigma, trials, out), refusal = right;
+    uint64_t n = (uint64_t)sigma * 100000, w = out[0];
+
+    /* refused, or not */
+    if (has("root: 42,000 refused") && sigma == 42000) refusal = 3;
+    if (has("root: 42,001 taken") && sigma == 42001) refusal = 0;
+    if (has("root: 0 refused") && sigma == 0) refusal = 3;
+    if (refusal != right) memset(out, 0, sizeof was);
+    if (refusal < right) {
+        out[0] = rooted(n);
+        search(n, trials, out + 1);
+    }
+    if (has("root: refused by 4") && refusal) refusal = 4;
+    if (has("root: refused, and the words not written") && refusal) memcpy(out, was, sizeof was);
+    if (has("root: refused, and the rest left") && refusal) out[2] = n;
+    if (has("root: refused, and the last word not written") && refusal) out[3] = was[3];
+
+    /* the words */
+    if (strncmp(fault, "search: ", 8) == 0 && !refusal) search(n, trials, out + 1);
+    if (has("root: rounded up") && !refusal) out[0] += w * w < n;
+    if (has("root: rounded to the nearest") && !refusal) out[0] += n - w * w > w;
+    if (has("root: worked out in floats") && !refusal) out[0] = (uint64_t)_mm_cvtss_f32(_mm_sqrt_ss(_mm_set_ss((float)n)));
+    if (has("root: the root so far for the root")) out[0] = out[3];
+    if (has("root: the root for the root so far")) out[3] = out[0];
+    if (has("root: the root so far without its noughts")) out[3] /= out[1] ? 4 * out[1] : 1;
+    if (has("root: the last word not written")) out[3] = was[3];
+    if (has("root: a fifth word")) out[past_the_words] = 0;
+    if (has("root: the word before the first")) out[before_them] = 0;
+    return refusal;
 }
 
 /* ---- ln K0: by the definition once more, with a slip */

@@ -12,7 +12,7 @@ import sys
 from concurrent.futures import ThreadPoolExecutor
 from pathlib import Path
 
-from calls import ENTRIES, co2_calls, differences, line_calls, long_streams, mode_calls, mode_reports, stream_calls
+from calls import ENTRIES, co2_calls, differences, line_calls, long_streams, mode_calls, mode_reports, root_calls, stream_calls
 from streams import LONGEST, depths, hard_streams
 
 WORKERS = 2
@@ -26,6 +26,7 @@ def some_batches():
     yield list(stream_calls(some))
     yield list(line_calls(ENTRIES[::2] + ENTRIES[-8:]))
     yield list(co2_calls(rng))
+    yield list(root_calls(rng))
     yield from mode_calls(rng.sample(list(mode_reports(rng)), 400))
 
 

@@ -9,6 +9,7 @@ mod panel;
 mod random;
 mod recipe;
 mod recorder;
+mod root;
 
 /// What was tried and what came out wrong.
 pub struct Tally {
@@ -38,6 +39,7 @@ fn main() {
     let panel = panel::Panel::new(std::env::args().skip(1).collect());
     let formula = recipe::Formula::printed();
     let mut tallies = grid::all(&panel, &formula);
+    tallies.extend(root::all(&panel));
     tallies.extend(channel::all(&panel, &formula));
     tallies.extend(co2::all(&panel));
     tallies.extend(needle::all(&panel, &formula));
