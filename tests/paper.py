@@ -12,6 +12,7 @@ import re
 import struct
 import subprocess
 import sys
+from fractions import Fraction
 from pathlib import Path
 
 TOP = Path(__file__).resolve().parent.parent
@@ -83,6 +84,10 @@ def prose(page, told):
     ladder = [x for line in re.findall(r"(?m)^\| [\d,]+(?: \| [\d,]+){3} \|$", page) for x in cells(line)]
     hold(ladder == [4**k for k in range(15, -1, -1)], "the ladder")
     n = 3_500_000_000
+    point = re.search(r"for (\d+) it is ([\d,]+), and the square root of (0\.\d+) is (0\.\d{5}) and a little more", page)
+    salinity, w, hundredth, cut = int(point[1]), number(point[2]), Fraction(point[3]), Fraction(point[4])
+    hold(w == told[salinity * 1000, 16][1] and cut == Fraction(w, 100_000) and hundredth == Fraction(salinity, 100), "the root and its point")
+    hold(cut**2 < hundredth < (cut + Fraction(1, 100_000)) ** 2, "the root and its point do not hold")
     pairs = re.search(r"([\d,]+) has (\d+) digits,\n\n    ([01 ]+)\n\nin (\d+) pairs; the first trial bit is a 1 with (\d+) noughts, ([\d,]+)\. ([\d,]+) has (\d+) digits", page)
     hold(pairs and number(pairs[1]) == n and int(pairs[2]) == n.bit_length(), "how many digits")
     hold(re.fullmatch(r"[01]{2}( [01]{2})*", pairs[3]) and int(pairs[3].replace(" ", ""), 2) == n, "the pairs of digits")

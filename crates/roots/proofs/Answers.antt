@@ -1,12 +1,11 @@
 -- What is answered: on the grid the root that the recipe uses and the paper's line, whose root is that one after 16 trials, for every salinity; a refusal
 -- exactly off the grid. Assumes nothing.
-use Prim.Native.Nat.{ℕ, _*_, _^_, _<_, _≤_}
-use mathlib.Core.Path.{_≡_, refl, sym, ap, _∙_}
+use Prim.Native.Nat.{ℕ, _*_, _≤_}
+use mathlib.Core.Path.{_≡_, refl, _∙_}
 use native.Mathlib.Omega.{arith}
-use lib.Count.{leading-length}
 use lib.IntN.{ℤ, pos}
 use Rattle.whole.specs.Arith.{plus}
-use Rattle.whole.specs.Paper.{pairsOf, after, rooted}
+use Rattle.whole.specs.Paper.{after, rooted}
 use Rattle.whole.proofs.Lines.{rooted-is, ended-rooted, ends, pairs-within}
 use Rattle.refusals.specs.declared.Refusal.{Refusal}
 use Rattle.refusals.specs.declared.Refusal.the-variants.{Salinity}
@@ -15,7 +14,6 @@ use Rattle.sea.specs.declared.InRange.the-variants.{Inside, Outside}
 use Rattle.sea.specs.Recipe.{rootAt}
 use Rattle.sea.specs.Sizes.{Lies}
 use Rattle.sea.specs.Water.{rangeOf}
-use Rattle.sea.proofs.Grid.{inside-lies}
 use Rattle.sea.proofs.Answers.{lies-inside, not-outside}
 use Rattle.roots.specs.declared.Search.{Search}
 use Rattle.roots.specs.declared.Search.the-variants.{Known, Refused}

@@ -1,9 +1,7 @@
 -- The steps of the paper in numbers, and small roots: what the steps and the code would have to get wrong together is held to literals here. (Whole
 -- papers: `paper-points` of roots/proofs/Points.) Assumes nothing.
 use mathlib.Core.Path.{_≡_, refl}
-use Prim.Native.Nat.{ℕ}
 use lib.Count.{leadingZeros}
-use Rattle.whole.specs.declared.Trial.{Trial}
 use Rattle.whole.specs.Paper.{pairsOf, begun, tried, next, after, rooted}
 
 -- the first line of 9, in binary digits 1001: the trial bit is 100

@@ -2,19 +2,18 @@
 -- and w is d with k noughts at its end; the trial bit is a quarter of 4ᵏ, the root so far is w·2ᵏ, and the rest is n less the square of w: so a
 -- trial's square is tested by a sum. Assumes nothing.
 use mathlib.Core.Path.{_≡_, sym, ap, _∙_, subst}
-use mathlib.Core.Bool.{true, false}
 use Prim.Native.Nat.{ℕ, zero, suc, _+_, _*_, _-_, _/_, _^_, _<_, _≤_}
 use native.Mathlib.Omega.{arith}
 use native.Mathlib.Decide.{decLe}
 use native.Mathlib.Nat.{mul-le-mul, mul-add, add-mul, mul-comm, mul-assoc, mul-one, one-mul}
 use lib.Count.{leadingZeros, leading-length, leading-top}
 use lib.Pow.{pow-pos, pow-mono, pow-add, high as shr-high}
-use lib.Dec.{leb, eqb, leb→le, nleb→lt}
+use lib.Dec.{leb, leb→le, nleb→lt}
 use borrow.Author.Tests.{eq-eqb, ne-eqb}
 use Rattle.whole.specs.declared.Trial.{Trial}
 use Rattle.whole.specs.Arith.{rootOf}
 use Rattle.whole.specs.Paper.{_≪_, _≫_, pairsOf, begun, tried, next, after, rooted}
-use Rattle.whole.proofs.Roots.{Root, Settled, settled-start, settled-kept, settled-left, settled-end, twice, either, root-is, root-greatest, root-only, square-less}
+use Rattle.whole.proofs.Roots.{Root, Settled, settled-start, settled-kept, settled-left, settled-end, twice, either, root-is, root-greatest, root-only, square-less, next-square}
 
 pub record Line (n k : ℕ) (t : Trial) : Type 0 where
   pub d : ℕ
@@ -26,8 +25,8 @@ pub record Line (n k : ℕ) (t : Trial) : Type 0 where
   pub rest-is : t .rest + w * w ≡ n
 
 -- ---- the first line
-short : (m j n : ℕ) → n < 2 ^ j → 2 ^ m ≤ 2 * n + 1 → m ≤ j
-short m j n h p = go (decLe m j)
+length-within : (m j n : ℕ) → n < 2 ^ j → 2 ^ m ≤ 2 * n + 1 → m ≤ j
+length-within m j n h p = go (decLe m j)
   where
     go : Dec (m ≤ j) → m ≤ j
     go (yes q) = q
@@ -40,7 +39,7 @@ pub pairs-within : (n k : ℕ) → n < 2 ^ 64 → n < 2 ^ (k + k) → pairsOf n 
 unfolding pairsOf
 pairs-within n k h p =
     let l = leading-length 64 n h in
-    omega (arith, l .1, short (l .0) (k + k) n p (l .3))
+    omega (arith, l .1, length-within (l .0) (k + k) n p (l .3))
 
 -- twice the pairs is the number of digits, or one more
 pairs-length : (n j : ℕ) → leadingZeros 64 n + suc j ≡ 64 → (suc j ≤ pairsOf n + pairsOf n) × (pairsOf n + pairsOf n ≤ suc (suc j))
@@ -165,7 +164,7 @@ line-after n h (suc j) =
     let e : pairsOf n - suc j ≡ pairsOf n - j - 1 = omega arith in
     rw e (line-next n (pairsOf n - j) (after j n) (line-after n h j))
 
--- so every number of a line is told by the root
+-- so the root alone tells every number of a line
 line-digits : (n k : ℕ) (t : Trial) → n < 2 ^ 64 → (l : Line n k t) → l .d ≡ (rootOf n ≫ k)
 line-digits n k t h l =
     let r = rootOf n in
@@ -220,8 +219,7 @@ last-line n h j f =
     let l = subst (λ (k : ℕ). Line n k (after j n)) e (line-after n h j) in
     let w = l .w in
     let r : after j n .root ≡ w = l .root-is ∙ mul-one w in
-    let q : (w + 1) * (w + 1) ≡ w * w + 2 * w + 1 = omega (arith, mul-add (w + 1) w 1, add-mul w 1 w) in
-    rw r (omega (arith, l .rest-is), omega (arith, l .rest-is, settled-end n w (l .settled) .high, q))
+    rw r (omega (arith, l .rest-is), omega (arith, l .rest-is, settled-end n w (l .settled) .high, next-square w))
 
 -- the root on paper is the root
 pub rooted-is : (n : ℕ) → n < 2 ^ 64 → rooted n ≡ rootOf n

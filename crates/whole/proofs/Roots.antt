@@ -80,8 +80,10 @@ root-only w v n a b = omega (arith, below-root w v n (a .low) (b .high), below-r
 pub root-below : (w v n : ℕ) → Root w n → n < (v + 1) * (v + 1) → w ≤ v
 root-below w v n r h = below-root w v n (r .low) h
 
+pub next-square : (w : ℕ) → (w + 1) * (w + 1) ≡ w * w + 2 * w + 1
+next-square w = omega (arith, mul-add (w + 1) w 1, add-mul w 1 w)
+
 -- one squaring is enough to check a root and its rest
 pub root-squared : (w rest n : ℕ) → n < 2 ^ 64 → w * w + rest ≡ n → rest ≤ 2 * w → w ≡ rootOf n
 root-squared w rest n h e l =
-    let q : (w + 1) * (w + 1) ≡ w * w + 2 * w + 1 = omega (arith, mul-add (w + 1) w 1, add-mul w 1 w) in
-    root-only w (rootOf n) n (record { low = omega arith; high = omega (arith, q) }) (root-is n h)
+    root-only w (rootOf n) n (record { low = omega arith; high = omega (arith, next-square w) }) (root-is n h)

@@ -1,5 +1,5 @@
 -- The root on paper (docs/ROOT.md): bit by bit, by shift, add and compare. A line of the paper is a `Trial`: the trial bit, the rest, the root so far.
--- (For every number below 2⁶⁴ the last line has the root of Arith: `rooted-is` of proofs/Lines. What a line means: `Line` there.)
+-- (For every number below 2⁶⁴ the last line has the root of Arith: `rooted-is` of proofs/Lines. What stands in any line, by the root alone: `line-is`.)
 use Prim.Native.Nat.{ℕ, zero, suc, _+_, _*_, _-_, _/_, _^_}
 use mathlib.Core.Bool.{cond}
 use lib.Dec.{leb, eqb}

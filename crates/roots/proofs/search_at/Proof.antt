@@ -1,6 +1,6 @@
 -- `roots::search_at` meets its contract: what passes the check is on the grid, so that σ·100,000 has its root. Assumes nothing.
 use mathlib.Core.Path.{_≡_, ap, ap₂, _∙_}
-use Prim.Native.Nat.{ℕ, _*_, _≤_}
+use Prim.Native.Nat.{ℕ, _*_}
 use native.Mathlib.Omega.{arith}
 use borrow.Author.Needs.{needs}
 use lib.IntN.{ℤ, pos}

@@ -1,7 +1,7 @@
 -- `whole::trial_after` meets its contract: the loop goes from line to line of the paper, and a line without a trial bit stays as it is. The measure
 -- is the trials that are left. Assumes nothing.
 use mathlib.Core.Path.{_≡_, sym, ap, _∙_}
-use Prim.Native.Nat.{ℕ, suc, _+_, _-_, _<_, _≤_, _^_}
+use Prim.Native.Nat.{_-_, _<_, _≤_, _^_}
 use native.Mathlib.Omega.{arith}
 use native.Mathlib.Numerals.{add-one}
 use Rattle.whole.specs.Paper.{tried, after}
