@@ -41,8 +41,9 @@ def cells(line):
 def ask(command, asked):
     """The words of the compiled call for each salinity and number of trials."""
     requests = b"".join(b"w" + struct.pack("<qI", *each) for each in asked)
-    answers = subprocess.run(command, input=requests, capture_output=True, check=True).stdout
-    return dict(zip(asked, struct.iter_unpack("<5Q", answers), strict=True))
+    answers = [*struct.iter_unpack("<5Q", subprocess.run(command, input=requests, capture_output=True, check=True).stdout)]
+    assert len(answers) == len(asked)
+    return dict(zip(asked, answers))
 
 
 def sigma_of(salinity):

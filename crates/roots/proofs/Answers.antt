@@ -15,7 +15,6 @@ use Rattle.sea.specs.Recipe.{rootAt}
 use Rattle.sea.specs.Sizes.{Lies}
 use Rattle.sea.specs.Water.{rangeOf}
 use Rattle.sea.proofs.Answers.{lies-inside, not-outside}
-use Rattle.roots.specs.declared.Search.{Search}
 use Rattle.roots.specs.declared.Search.the-variants.{Known, Refused}
 use Rattle.roots.specs.Search.{ifInside, searchOf}
 

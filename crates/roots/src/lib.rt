@@ -1,6 +1,6 @@
 // The root of a salinity, and the line of its search after so many trials, as the service shop works it out on paper (docs/ROOT.md).
 ghost use mathlib.Core.Path.{_≡_};
-ghost use Rattle.roots.specs.Search.{searchOf, searchNumber};
+ghost use Rattle.roots.specs.Search.{searchOf};
 use refusals::Refusal;
 use sea::InRange;
 use whole::Trial;
@@ -9,17 +9,6 @@ use whole::Trial;
 pub enum Search {
     Known { root: u64, line: Trial },
     Refused(Refusal),
-}
-
-impl Search {
-    pub fn number(self) -> u32
-        ensures { λ r. ⌜ r ≡ searchNumber self ⌝ }
-    {
-        match self {
-            Search::Known { root: _, line: _ } => 0,
-            Search::Refused(why) => why.number(),
-        }
-    }
 }
 
 // The root of the grid number sigma (salinity in 0.001) as a reading uses it, and the line of its search after so many trials.

@@ -17,6 +17,10 @@ pub trials :
 unfolding tried
 trials = (refl, (refl, refl))
 
+pub second-of-nine : after 1 9 ≡ record { bit = 1; rest = 5; root = 4 }
+unfolding leadingZeros pairsOf begun tried next after
+second-of-nine = refl
+
 pub no-more-trials : next (record { bit = 0; rest = 4; root = 2 }) ≡ record { bit = 0; rest = 4; root = 2 }
 unfolding next
 no-more-trials = refl

@@ -8,3 +8,4 @@ pub mod Roots
 pub mod Lines
 pub mod Cases
 pub mod One
+pub mod Told

@@ -14,7 +14,6 @@ use Rattle.sea.specs.declared.InRange.the-variants.{Inside}
 use Rattle.sea.specs.Recipe.{rootAt}
 use Rattle.sea.specs.Water.{rangeOf}
 use Rattle.sea.proofs.Grid.{Natural, natural, inside-lies, range-is}
-use Rattle.roots.specs.declared.Search.{Search}
 use Rattle.roots.specs.declared.Search.the-variants.{Known}
 use Rattle.roots.specs.Search.{ifInside, searchOf}
 use Rattle.roots.proofs.search_at.Statement.{statement}

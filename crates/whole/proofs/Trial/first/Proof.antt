@@ -1,6 +1,6 @@
 -- `whole::Trial::first` meets its contract: below 2⁶² the first trial bit fits a word. Assumes nothing.
 use mathlib.Core.Path.{_≡_}
-use Prim.Native.Nat.{_-_, _/_, _*_, _<_, _≤_, _^_, _%_}
+use Prim.Native.Nat.{_-_, _/_, _*_, _≤_, _^_, _%_}
 use native.Mathlib.Omega.{arith}
 use borrow.Author.Needs.{needs}
 use lib.Count.{leadingZeros, leading-le}
