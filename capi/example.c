@@ -109,7 +109,7 @@ static void show_grid(int64_t sigma, int64_t tau, int64_t pi) {
 
 static void show_root(int64_t sigma, uint32_t trials) {
     struct root r = root_of(sigma, trials);
-    printf("root of %" PRId64 " after %" PRIu32 " trials: refusal %" PRIu32 ", root %" PRIu64 ", trial bit %" PRIu64 ", rest %" PRIu64
+    printf("root of %" PRId64 ", trials %" PRIu32 ": refusal %" PRIu32 ", root %" PRIu64 ", trial bit %" PRIu64 ", rest %" PRIu64
            ", root so far %" PRIu64 "\n", sigma, trials, r.refusal, r.root, r.bit, r.rest, r.so_far);
     tell(r.refusal);
 }

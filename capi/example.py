@@ -22,7 +22,7 @@ def show_grid(panel: Panel, sigma: int, tau: int, pi: int) -> None:
 def show_root(panel: Panel, sigma: int, trials: int) -> None:
     r = panel.root(sigma, trials)
     numbers = f"root {r.root}, trial bit {r.bit}, rest {r.rest}, root so far {r.so_far}"
-    print(f"root of {sigma} after {trials} trials: refusal {r.refusal:d}, {numbers}")
+    print(f"root of {sigma}, trials {trials}: refusal {r.refusal:d}, {numbers}")
     tell(r.refusal)
 
 

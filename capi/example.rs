@@ -255,7 +255,7 @@ fn show_grid(g: Grid) {
 fn show_root(sigma: i64, trials: u32) {
     let r = panel::root(sigma, trials);
     println!(
-        "root of {} after {} trials: refusal {}, root {}, trial bit {}, rest {}, root so far {}",
+        "root of {}, trials {}: refusal {}, root {}, trial bit {}, rest {}, root so far {}",
         sigma, trials, r.refusal, r.root, r.bit, r.rest, r.so_far
     );
     tell(r.refusal);

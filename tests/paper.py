@@ -1,11 +1,12 @@
 #!/usr/bin/env python3
-"""Holds the papers of docs/ROOT.md to the compiled panel, line by line, and the other numbers of that page to the rule that it explains.
+"""Holds docs/ROOT.md to the compiled panel, line by line, and to the rule that it explains, word by word.
 
     python3 tests/paper.py COMMAND ...      the command that starts the driver (tests/driver.c)
 
-Every line of each paper is asked of the compiled code, and so is the line after the last. The sums, the digits and the check below a paper are worked
-out here; the ladder, the pairs of digits and the line that is checked as an example too. A number of the page that is changed has to be seen. Where the
-shared library can be loaded, what examples/root-on-paper prints has to be on the page as it is, and it has to refuse what is no salinity.
+Every line of each paper is asked of the compiled code, and so is the line after the last; and it is worked out once more by the page's own steps, whose
+sentences have to stand there as they stand in RULE. The lines of the theorem `paper-points` are those of the page. Sums, digits, the check below a paper,
+the ladder and every other number of the page are worked out here: each that is changed has to be seen. What examples/root-on-paper prints has to be on the
+page as it is, on x86-64, where it can be run; it has to refuse what is no salinity, and to say so where a last line is none.
 """
 import platform
 import re
@@ -13,12 +14,29 @@ import struct
 import subprocess
 import sys
 from fractions import Fraction
+from importlib.machinery import SourceFileLoader
+from importlib.util import module_from_spec, spec_from_loader
+from math import isqrt
 from pathlib import Path
 
 TOP = Path(__file__).resolve().parent.parent
 PAGE = (TOP / "docs/ROOT.md").read_text(encoding="utf-8")
-PAPERS = ["35", "12.345"]
+POINTS = (TOP / "crates/roots/proofs/Points.antt").read_text(encoding="utf-8")
 EXAMPLE = TOP / "examples/root-on-paper"
+PAPERS = ["35", "12.345"]
+N = 3_500_000_000
+
+# The steps, as a reader has them; by_rule() does what they say.
+RULE = [
+    "Take the salinity in thousandths and write five noughts after it",
+    "One digit struck halves it, two digits struck quarter it.",
+    "1. **The first line.** The rest is the number itself, the root so far is 0. The trial bit is the greatest number of the ladder that is not over it.",
+    "2. **A trial.** Add the root so far and the trial bit. Compare the sum with the rest.\n",
+    "   - It is not over the rest: the digit is 1. Take the sum from the rest. Halve the root so far and add the trial bit to it.\n",
+    "   - It is over the rest: the digit is 0. The rest stays. Halve the root so far.\n",
+    "   Either way, the trial bit goes one step down the ladder.",
+    "3. **The end.** After the trial with the bit 1 the trial bit is 0. What now stands for the root so far is the root.\n",
+]
 
 
 class Wrong(Exception):
@@ -57,12 +75,30 @@ def section(page, salinity):
     return found[1]
 
 
-def paper(page, salinity, told):
+def by_rule(n, ladder):
+    """Trial bit, rest and root so far of each line."""
+    steps = [bit for bit in ladder if bit <= n] + [0]
+    rest, so_far = n, 0
+    for bit in steps[:-1]:
+        yield [bit, rest, so_far]
+        together = so_far + bit
+        hold(so_far % 2 == 0, "a root so far that is odd is halved")
+        so_far //= 2
+        if together <= rest:
+            rest -= together
+            so_far += bit
+    yield [0, rest, so_far]
+
+
+def paper(page, salinity, told, ladder):
     """Returns how many lines were compared."""
     text, sigma = section(page, salinity), sigma_of(salinity)
     n = sigma * 100_000
     hold(f"Salinity {sigma // 1000}.{sigma % 1000:03d} in thousandths, with five noughts: {n:,}\n" in text, f"{salinity}: what is rooted")
     lines = [cells(line) for line in re.findall(r"(?m)^\| +\d* \| .*\|$", text)]
+    hold([[bit, rest, so_far] for _, bit, so_far, _, rest, _ in lines] == [*by_rule(n, ladder)], f"{salinity}: not by the page's own steps")
+    theorem = re.findall(rf"\bat {sigma:_} (\d+) ([\d_]+) ([\d_]+) ([\d_]+)\n", POINTS)
+    hold([[*map(int, each)] for each in theorem] == [[j, bit, rest, so_far] for j, (_, bit, so_far, _, rest, _) in enumerate(lines)], f"{salinity}: not the theorem's lines")
     digits = ""
     for trials, (trial, bit, so_far, together, rest, digit) in enumerate(lines):
         refusal, root, *line = told[sigma, trials]
@@ -81,70 +117,99 @@ def paper(page, salinity, told):
 
 
 def prose(page, told):
-    """The ladder, the pairs of digits, the line that is checked."""
+    """The steps word by word, and every number outside the papers. Returns the ladder."""
+    for sentence in RULE:
+        hold(sentence in page, f"the steps do not say: {sentence.strip()}")
     ladder = [x for line in re.findall(r"(?m)^\| [\d,]+(?: \| [\d,]+){3} \|$", page) for x in cells(line)]
     hold(ladder == [4**k for k in range(15, -1, -1)], "the ladder")
-    n = 3_500_000_000
-    point = re.search(r"for (\d+) it is ([\d,]+), and the square root of (0\.\d+) is (0\.\d{5}) and a little more", page)
-    salinity, w, hundredth, cut = int(point[1]), number(point[2]), Fraction(point[3]), Fraction(point[4])
-    hold(w == told[salinity * 1000, 16][1] and cut == Fraction(w, 100_000) and hundredth == Fraction(salinity, 100), "the root and its point")
-    hold(cut**2 < hundredth < (cut + Fraction(1, 100_000)) ** 2, "the root and its point do not hold")
-    pairs = re.search(r"([\d,]+) has (\d+) digits,\n\n    ([01 ]+)\n\nin (\d+) pairs; the first trial bit is a 1 with (\d+) noughts, ([\d,]+)\. ([\d,]+) has (\d+) digits", page)
-    hold(pairs and number(pairs[1]) == n and int(pairs[2]) == n.bit_length(), "how many digits")
-    hold(re.fullmatch(r"[01]{2}( [01]{2})*", pairs[3]) and int(pairs[3].replace(" ", ""), 2) == n, "the pairs of digits")
-    hold(int(pairs[4]) == len(pairs[3].split()) and 4 ** (int(pairs[4]) - 1) == number(pairs[6]) == 1 << int(pairs[5]), "the first trial bit")
-    hold(number(pairs[7]) == 1_234_500_000 and int(pairs[8]) == number(pairs[7]).bit_length(), "the other number's digits")
-    words = r"After trial (\d+) of salinity 35, in the line of trial (\d+), (\d+) trials are left: ([\d,]+) halved (\d+) times is ([\d,]+), whose square is ([\d,]+); with the rest, ([\d,]+), that makes ([\d,]+)\."
-    found = re.search(words, page)
-    hold(found, "the line that is checked")
-    trials, line, left, so_far, halved, w, square, rest, makes = map(number, found.groups())
-    hold((line, left, halved) == (trials + 1, 16 - trials, left) and told[35_000, trials][3:] == (rest, so_far), "the line that is checked is another")
-    hold(so_far == w << left and square == w * w and square + rest == makes == n, "the line that is checked does not hold")
+    w, other, left = told[35_000, 16][1], 1_234_500_000, 16 - 8
+    _, _, _, rest, so_far = told[35_000, 8]
+    known = so_far >> left
+    pairs = " ".join(f"{N:b}"[i : i + 2] for i in range(0, 32, 2))
+    hold(Fraction(w, 100_000) ** 2 < Fraction(35, 100) < Fraction(w + 1, 100_000) ** 2, "the root and its point")
+    hold(known**2 + rest == N and N.bit_length() == 32 and other.bit_length() == 31 and ladder[0] <= other, "the examples")
+    longest = max((sigma * 100_000).bit_length() for sigma in range(42_001))
+    for sentence in (
+        f"    examples/root-on-paper {PAPERS[1]}\n",
+        f"for 35 that is {35_000:,}, and then {N:,}.",
+        "divided by 100, with five decimals.",
+        f"for 35 it is {w:,}, and the square root of 0.35 is 0.{w} and a little more.",
+        "(For a salinity of 0 there is none: the trial bit is 0, and so is the root.)",
+        f"No salinity takes more than {(longest + 1) // 2} trials.",
+        f"the digits of the root are worth {isqrt(ladder[0]):,}, {isqrt(ladder[1]):,}, {isqrt(ladder[2]):,} and on to 1, their squares are the ladder.",
+        "every trial with such a bit would give a 0 and change nothing",
+        "the leading 1 stands in the leftmost pair",
+        f"{N:,} has 32 digits,\n\n    {pairs}\n\nin {len(pairs.split())} pairs; the first trial bit is a 1 with 30 noughts, {1 << 30:,}.",
+        f"{other:,} has 31 digits, and its leading pair is a single 1: {(31 + 1) // 2} pairs as well.",
+        "counts the zeros before the leading 1 in a word of 64 digits, for which the processor has an instruction, takes them from 65,",
+        f"After trial 8 of salinity 35, in the line of trial 9, {left} trials are left: {so_far:,} halved {left} times is {known:,}, whose square is {known**2:,};"
+        f" with the rest, {rest:,}, that makes {N:,}.",
+        "For every number below 2⁶⁴ the last line has the root",
+        "for every salinity from 0 to 42 it is the root that",
+        f"after at most {(longest + 1) // 2} trials (`sixteen`)",
+        "the root of all 42,001 salinities",
+    ):
+        hold(sentence in page, f"the page does not say: {sentence.strip()}")
+    return ladder
+
+
+def whole_page(page, told):
+    ladder = prose(page, told)
+    return sum(paper(page, salinity, told, ladder) for salinity in PAPERS)
 
 
 def changed(page):
-    """The page with one of its numbers changed: every cell of every line, and every number of the checks."""
-    for salinity in PAPERS:
-        start = page.index(f"\n## Salinity {salinity}\n")
-        end = page.index("\n## ", start + 1)
-        for at in re.finditer(r"\d[\d,]*\d|\d", page[start:end]):
-            if at.start() > len(f"\n## Salinity {salinity}"):
-                last = start + at.end() - 1
-                yield page[:last] + str((int(page[last]) + 1) % 10) + page[last + 1 :]
+    """The page with a digit of one of its numbers changed, each number in turn."""
+    for at in re.finditer(r"\d[\d,.]*\d|\d", page):
+        last = at.end() - 1
+        yield page[:last] + str((int(page[last]) + 1) % 10) + page[last + 1 :]
 
 
 def refused(page, told):
     try:
-        for salinity in PAPERS:
-            paper(page, salinity, told)
+        whole_page(page, told)
     except Wrong:
         return True
     return False
 
 
 def example():
-    """What the example prints stands on the page; what it refuses it says, with status 2, and prints nothing."""
+    """What the example prints stands on the page; what it refuses it says, with status 2, and prints nothing; a line that is wrong it does not pass."""
     for salinity in PAPERS:
         printed = subprocess.run([EXAMPLE, salinity], capture_output=True, text=True, check=True).stdout
         hold(f"\n\n{printed}\n" in PAGE, f"the example's paper of {salinity} is not on the page")
-    for bad, why in (("42.001", "the salinity is not from 0 to 42"), ("-0.001", "the salinity is not from 0 to 42"), ("12.3456", "at most three decimals"), ("salt", "at most three decimals")):
+    far, none = "the salinity is not from 0 to 42", "at most three decimals"
+    for bad, why in (("42.001", far), ("-0.001", far), ("9" * 30, far), ("12.3456", none), ("salt", none), ("", none), (".", none), ("12,345", "after a point")):
         run = subprocess.run([EXAMPLE, bad], capture_output=True, text=True)
         hold(run.returncode == 2 and not run.stdout and why in run.stderr, f"the example's answer to {bad}")
+    loader = SourceFileLoader("root_on_paper", str(EXAMPLE))
+    script = module_from_spec(spec_from_loader(loader.name, loader))
+    loader.exec_module(script)
+    right = script.Panel().root_lines(35_000)
+    hold(script.paper(35_000, right)[1], "the example does not pass a right paper")
+    last = right[-1]
+    for slip in (last._replace(so_far=59_161), last._replace(rest=94_401), last._replace(root=59_161), last._replace(so_far=59_159, rest=94_400 + 2 * 59_160 - 1)):
+        text, passes = script.paper(35_000, [*right[:-1], slip])
+        hold(not passes and f"that makes {slip.so_far**2 + slip.rest:,};" in text, "the example passes a wrong paper")
 
 
 def main():
     asked = [(sigma_of(salinity), trials) for salinity in PAPERS for trials in range(40)]
     told = ask(sys.argv[1:], asked)
     try:
-        lines = sum(paper(PAGE, salinity, told) for salinity in PAPERS)
-        prose(PAGE, told)
+        lines = whole_page(PAGE, told)
         if platform.machine() == "x86_64":
             example()
     except Wrong as why:
         sys.exit(f"docs/ROOT.md: {why}")
-    changes = [refused(page, told) for page in changed(PAGE)]
-    print(f"docs/ROOT.md: {lines} lines of {len(PAPERS)} papers as the compiled panel has them; {sum(changes)} of {len(changes)} changed numbers seen")
-    sys.exit(0 if all(changes) else 1)
+    changes = [(page, refused(page, told)) for page in changed(PAGE)]
+    for page, seen in changes:
+        if not seen:
+            at = next(i for i, (a, b) in enumerate(zip(page, PAGE)) if a != b)
+            print("docs/ROOT.md: not seen:", page[max(at - 40, 0) : at + 20].replace("\n", " "))
+    seen = sum(seen for _, seen in changes)
+    print(f"docs/ROOT.md: {lines} lines of {len(PAPERS)} papers as the compiled panel and the page's steps have them; {seen} of {len(changes)} changed numbers seen")
+    sys.exit(0 if seen == len(changes) else 1)
 
 
 main()

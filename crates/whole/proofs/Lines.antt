@@ -164,7 +164,7 @@ line-after n h (suc j) =
     let e : pairsOf n - suc j ≡ pairsOf n - j - 1 = omega arith in
     rw e (line-next n (pairsOf n - j) (after j n) (line-after n h j))
 
--- so the root alone tells every number of a line
+-- so n and its root tell every number of a line
 line-digits : (n k : ℕ) (t : Trial) → n < 2 ^ 64 → (l : Line n k t) → l .d ≡ (rootOf n ≫ k)
 line-digits n k t h l =
     let r = rootOf n in

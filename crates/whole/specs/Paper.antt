@@ -1,6 +1,6 @@
 -- SPEC, "The root on paper": bit by bit, by shift, add and compare; docs/ROOT.md works two numbers through. A line of the paper is a `Trial`: the trial
 -- bit, the rest, the root so far. (For every number below 2⁶⁴ the last line has the root of Arith: `rooted-is` of proofs/Lines. What stands in any line,
--- by the root alone: `line-is`.)
+-- by the number and its root: `line-is`.)
 use Prim.Native.Nat.{ℕ, zero, suc, _+_, _*_, _-_, _/_, _^_}
 use mathlib.Core.Bool.{cond}
 use lib.Dec.{leb, eqb}
