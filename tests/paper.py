@@ -176,8 +176,9 @@ def refused(page, told):
 def example():
     """What the example prints stands on the page; what it refuses it says, with status 2, and prints nothing; a line that is wrong it does not pass."""
     for salinity in PAPERS:
-        printed = subprocess.run([EXAMPLE, salinity], capture_output=True, text=True, check=True).stdout
-        hold(f"\n\n{printed}\n" in PAGE, f"the example's paper of {salinity} is not on the page")
+        run = subprocess.run([EXAMPLE, salinity], capture_output=True, text=True)
+        hold(run.returncode == 0 and not run.stderr, f"the example's paper of {salinity}: {run.stderr.strip()}")
+        hold(f"\n\n{run.stdout}\n" in PAGE, f"the example's paper of {salinity} is not on the page")
     far, none = "the salinity is not from 0 to 42", "at most three decimals"
     for bad, why in (("42.001", far), ("-0.001", far), ("9" * 30, far), ("12.3456", none), ("salt", none), ("", none), (".", none), ("12,345", "after a point")):
         run = subprocess.run([EXAMPLE, bad], capture_output=True, text=True)
