@@ -9,6 +9,7 @@ use lib.Ieee.{Float}
 use Rattle.whole.specs.Arith.{neg}
 use Rattle.refusals.specs.declared.Refusal.{Refusal}
 use Rattle.refusals.specs.declared.Unread.{Unread}
+use Rattle.floats.specs.declared.Remark.the-variants.{Below, On, Above}
 use Rattle.readings.specs.declared.Report.{Report}
 use Rattle.readings.specs.declared.Entry.{Entry}
 use Rattle.channels.specs.declared.Channel.{Channel}
@@ -39,18 +40,18 @@ other-kinds kind s t p a b c d e = simp (ne-eqb _ _ a, ne-eqb _ _ b, ne-eqb _ _ 
 
 -- salinity 35 at 10 bar and -1 °C, in made-up numbers that are all different; so is the needle below, also from the difference of the two densities
 abbrev deep : Channel
-deep = Channel.Accepted (record { sigma = pos 35_000; tau = neg 1_000; pi = pos 1_001 }) 1_028_642 2_219_593
+deep = Channel.Accepted (record { sigma = pos 35_000; tau = neg 1_000; pi = pos 1_001 }) 1_028_642 2_219_593 (record { salinity = Above; temperature = Below; pressure = On })
 
 abbrev no : Channel
 no = Channel.Refused Refusal.Temperature
 
 pub channel-words :
-    (channelWords deep ≡ pos 35_000 ∷ neg 1_000 ∷ pos 1_001 ∷ pos 1_028_642 ∷ pos 2_219_593 ∷ [])
-    × (channelWords no ≡ pos 0 ∷ pos 0 ∷ pos 0 ∷ pos 0 ∷ pos 0 ∷ [])
+    (channelWords deep ≡ pos 35_000 ∷ neg 1_000 ∷ pos 1_001 ∷ pos 1_028_642 ∷ pos 2_219_593 ∷ pos 3 ∷ pos 1 ∷ pos 2 ∷ [])
+    × (channelWords no ≡ pos 0 ∷ pos 0 ∷ pos 0 ∷ pos 0 ∷ pos 0 ∷ pos 0 ∷ pos 0 ∷ pos 0 ∷ [])
 channel-words = (refl, refl)
 
 abbrev beside : Channel
-beside = Channel.Accepted (record { sigma = pos 34_000; tau = pos 5_000; pi = pos 0 }) 1_026_883 2_213_222
+beside = Channel.Accepted (record { sigma = pos 34_000; tau = pos 5_000; pi = pos 0 }) 1_026_883 2_213_222 (record { salinity = On; temperature = On; pressure = On })
 
 abbrev both : Comparison
 both = record { left = deep; right = beside; needle = Needle.Value (neg 1_293) }

@@ -6,6 +6,7 @@ use lib.Dec.{eqb}
 use lib.IntN.{ℤ, pos}
 use lib.Ieee.{Float}
 use Rattle.refusals.specs.declared.Unread.{Unread}
+use Rattle.floats.specs.Grid.{remarkNumber}
 use Rattle.readings.specs.declared.Report.{Report}
 use Rattle.readings.specs.declared.Entry.{Entry}
 use Rattle.channels.specs.declared.Channel.{Channel}
@@ -15,7 +16,7 @@ use Rattle.streams.specs.declared.Found.{Found}
 
 -- the ABI's own number: it goes up when a call that was there changes what it takes or what it answers
 abbrev pub version : ℕ
-version = 2
+version = 3
 
 -- a kind, as a record's, and its floats: 1 deep, 2 surface, 3 missing. 65,536 plus 6 or 8, which no record has for a kind, stands for a record that
 -- was refused by 6 or 8; any other kind, 65,536 plus 7 among them, is refused by 7 as a record's is
@@ -28,10 +29,13 @@ entryOf kind s t p =
     (cond (eqb kind 65544) (Entry.Refused Unread.Length)
     (Entry.Refused Unread.Kind)))))
 
--- a channel's grid numbers, density and bulk modulus; noughts if refused
+-- a channel's grid numbers, density and bulk modulus, and the remarks of salinity, temperature and pressure, each by its number: 1 below, 2 on, 3 above.
+-- Noughts if refused: 0 is no remark
 abbrev pub channelWords : Channel → List ℤ
-channelWords (Channel.Accepted p d k) = p .sigma ∷ p .tau ∷ p .pi ∷ pos d ∷ pos k ∷ []
-channelWords (Channel.Refused r) = pos 0 ∷ pos 0 ∷ pos 0 ∷ pos 0 ∷ pos 0 ∷ []
+channelWords (Channel.Accepted p d k m) =
+    p .sigma ∷ p .tau ∷ p .pi ∷ pos d ∷ pos k
+    ∷ pos (remarkNumber (m .salinity)) ∷ pos (remarkNumber (m .temperature)) ∷ pos (remarkNumber (m .pressure)) ∷ []
+channelWords (Channel.Refused r) = pos 0 ∷ pos 0 ∷ pos 0 ∷ pos 0 ∷ pos 0 ∷ pos 0 ∷ pos 0 ∷ pos 0 ∷ []
 
 -- the two densities, 0 where refused, and the needle, 0 if refused
 abbrev pub comparisonWords : Comparison → List ℤ

@@ -19,6 +19,7 @@ use Rattle.readings.specs.declared.Report.{Report}
 use Rattle.readings.specs.declared.Reading.{Reading}
 use Rattle.readings.specs.declared.Entry.{Entry}
 use Rattle.readings.specs.declared.Point.{Point}
+use Rattle.readings.specs.declared.Remarks.{Remarks}
 use Rattle.readings.specs.declared.Purpose.{Purpose}
 use Rattle.readings.specs.declared.Checked.{Checked}
 use Rattle.readings.specs.Check.{pressures, deepOf, surfaceOf, givenOf, checkedFor}
@@ -40,8 +41,8 @@ lying-mild p g =
     let t = natural (p .tau) 40_000 (g .tau-low) (g .tau-high) in
     (s .0, (s .1, (t .0, t .1)))
 
-pub taken-mild : (report : Report) (p : Point) → checkedFor Purpose.Carbon report ≡ Checked.Taken p → (minus (p .sigma) ≡ 0) × ((plus (p .sigma) ≤ 42_000) × ((minus (p .tau) ≡ 0) × (plus (p .tau) ≤ 40_000)))
-taken-mild report p e = lying-mild p (reading.taken-on-grid Purpose.Carbon report p e)
+pub taken-mild : (report : Report) (p : Point) (m : Remarks) → checkedFor Purpose.Carbon report ≡ Checked.Taken p m → (minus (p .sigma) ≡ 0) × ((plus (p .sigma) ≤ 42_000) × ((minus (p .tau) ≡ 0) × (plus (p .tau) ≤ 40_000)))
+taken-mild report p m e = lying-mild p (reading.taken-on-grid Purpose.Carbon report p m e)
 
 -- ---- a value is ln K0 at the reading's own floats, put on the grid
 nothing : {r : Reading} → none ≡ some r → ⊥
@@ -68,10 +69,10 @@ known-is report r z g is = go (checkedFor Purpose.Carbon (unpressed report)) ref
       where
         never : Known z ≡ Refused x → ⊥
         never e = let w : _≡_ {A = ℕ} 0 1 = cc in omega arith
-    go (Checked.Taken p) e is =
+    go (Checked.Taken p o) e is =
         let q = first-two report r g in
-        let n = reading.taken-gridded Purpose.Carbon (unpressed report) (q .0) p (q .1 .0) e in
-        let m = taken-mild (unpressed report) p e in
+        let n = reading.taken-gridded Purpose.Carbon (unpressed report) (q .0) p o (q .1 .0) e in
+        let m = taken-mild (unpressed report) p o e in
         let σ : p .sigma ≡ gridNo 1000 (r .salinity) = n .sigma-is ∙ ap (gridNo 1000) (q .1 .1 .0) in
         let τ : p .tau ≡ gridNo 1000 (r .temperature) = n .tau-is ∙ ap (gridNo 1000) (q .1 .1 .1) in
         let v : z ≡ lnK0 (plus (p .sigma)) (kelvin (p .tau)) = cc in
@@ -89,7 +90,7 @@ unfolding solubilityOf
 refused-only report x is = go (checkedFor Purpose.Carbon (unpressed report)) refl is
   where
     go : (c : Checked) → checkedFor Purpose.Carbon (unpressed report) ≡ c → Refused x ≡ dissolved c → Reason Purpose.Carbon (unpressed report) x
-    go (Checked.Taken p) e is = absurd (never is)
+    go (Checked.Taken p o) e is = absurd (never is)
       where
         never : {z : ℤ} → Refused x ≡ Known z → ⊥
         never e = let w : _≡_ {A = ℕ} 0 1 = cc in omega arith
@@ -145,7 +146,7 @@ solubility-small (Entry.Refused u) = unread-brief u
 solubility-small (Entry.Reading report) = go (checkedFor Purpose.Carbon (unpressed report)) refl
   where
     go : (c : Checked) → checkedFor Purpose.Carbon (unpressed report) ≡ c → Brief (dissolved c)
-    go (Checked.Taken p) e =
-        let m = taken-mild (unpressed report) p e in
+    go (Checked.Taken p o) e =
+        let m = taken-mild (unpressed report) p o e in
         lnK0-small (plus (p .sigma)) (kelvin (p .tau)) (m .1 .0) (omega arith, omega (arith, m .1 .1 .1))
     go (Checked.Refused r) e = omega (arith, one-of-four (shallow-inside report) (reading.refused-only Purpose.Carbon (unpressed report) r e))

@@ -21,7 +21,7 @@ unpressed Report.Missing = Report.Missing
 
 -- ln K0 at the grid's point, or the first check that fails
 abbrev pub dissolved : Checked → Solubility
-dissolved (Checked.Taken p) = Known (lnK0 (plus (p .sigma)) (kelvin (p .tau)))
+dissolved (Checked.Taken p m) = Known (lnK0 (plus (p .sigma)) (kelvin (p .tau)))
 dissolved (Checked.Refused r) = Refused r
 
 -- a record's 6, 7 and 8 come before

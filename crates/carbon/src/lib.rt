@@ -123,7 +123,7 @@ pub fn answer(entry: Entry) -> Solubility
                 return Solubility::Refused(Refusal::Missing);
             };
             match readings::check_surface(salinity, temperature, Purpose::Carbon) {
-                Checked::Taken(at) => Solubility::Known(ln_k0(at.sigma, at.tau)),
+                Checked::Taken(at, _) => Solubility::Known(ln_k0(at.sigma, at.tau)),
                 Checked::Refused(why) => Solubility::Refused(why),
             }
         }

@@ -6,16 +6,17 @@ use lib.IntN.{pos}
 use Rattle.whole.specs.Arith.{neg}
 use Rattle.refusals.specs.declared.Refusal.{Refusal}
 use Rattle.readings.specs.declared.Point.{Point}
+use Rattle.readings.specs.declared.Remarks.{Remarks}
 use Rattle.channels.specs.declared.Channel.{Channel}
 use Rattle.channels.specs.declared.Needle.{Needle}
 use Rattle.channels.specs.Numbers.{channelNumber, channelDensity, channelBulk, needleNumber, needleValue}
 
--- salinity 35 at the surface and 5 °C, wherever it stands
-abbrev sea : Point → Channel
-sea p = Channel.Accepted p 1_027_675 2_218_593
+-- salinity 35 at the surface and 5 °C, wherever it stands and whatever is remarked
+abbrev sea : Point → Remarks → Channel
+sea p m = Channel.Accepted p 1_027_675 2_218_593 m
 
-pub accepted-channel : (p : Point) → (channelNumber (sea p) ≡ 0) × ((channelDensity (sea p) ≡ 1_027_675) × (channelBulk (sea p) ≡ 2_218_593))
-accepted-channel p = (refl, (refl, refl))
+pub accepted-channel : (p : Point) (m : Remarks) → (channelNumber (sea p m) ≡ 0) × ((channelDensity (sea p m) ≡ 1_027_675) × (channelBulk (sea p m) ≡ 2_218_593))
+accepted-channel p m = (refl, (refl, refl))
 
 abbrev no : Channel
 no = Channel.Refused Refusal.Temperature

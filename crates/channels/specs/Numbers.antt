@@ -7,15 +7,15 @@ use Rattle.channels.specs.declared.Needle.{Needle}
 
 -- a channel: the refusal's number (0 for none), the shown density, the bulk modulus
 abbrev pub channelNumber : Channel → ℕ
-channelNumber (Channel.Accepted p d k) = 0
+channelNumber (Channel.Accepted p d k m) = 0
 channelNumber (Channel.Refused r) = numberOf r
 
 abbrev pub channelDensity : Channel → ℕ
-channelDensity (Channel.Accepted p d k) = d
+channelDensity (Channel.Accepted p d k m) = d
 channelDensity (Channel.Refused r) = 0
 
 abbrev pub channelBulk : Channel → ℕ
-channelBulk (Channel.Accepted p d k) = k
+channelBulk (Channel.Accepted p d k m) = k
 channelBulk (Channel.Refused r) = 0
 
 -- a needle: its number (0 for none) and its value

@@ -2,11 +2,18 @@
 ghost use mathlib.Core.Path.{_≡_};
 ghost use Rattle.channels.specs.Numbers.{channelNumber, channelDensity, channelBulk, needleNumber, needleValue};
 use readings::Point;
+use readings::Remarks;
 use refusals::Refusal;
 
-// A channel's answer: the grid numbers, the shown density in 0.001 kg/m3 and the bulk modulus in 0.01 bar; or why not.
+// A channel's answer: the grid numbers, the shown density in 0.001 kg/m3, the bulk modulus in 0.01 bar, and on which side of its grid point each float
+// lies; or why not.
 pub enum Channel {
-    Accepted { at: Point, density: u32, bulk: u32 },
+    Accepted {
+        at: Point,
+        density: u32,
+        bulk: u32,
+        remarks: Remarks,
+    },
     Refused(Refusal),
 }
 
@@ -33,6 +40,7 @@ impl Channel {
                 at: _,
                 density: _,
                 bulk: _,
+                remarks: _,
             } => 0,
             Channel::Refused(why) => why.number(),
         }
@@ -46,6 +54,7 @@ impl Channel {
                 at: _,
                 density,
                 bulk: _,
+                remarks: _,
             } => density,
             Channel::Refused(_) => 0,
         }
@@ -59,6 +68,7 @@ impl Channel {
                 at: _,
                 density: _,
                 bulk,
+                remarks: _,
             } => bulk,
             Channel::Refused(_) => 0,
         }

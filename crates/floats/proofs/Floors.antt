@@ -1,5 +1,5 @@
--- The place of a fraction from three quotients rounded down: of the number, of its negation, and of its double. So equal fractions have one
--- place, and so have all fractions of a number that is far below their denominators. ℤ is read as a difference of naturals. Assumes nothing.
+-- The place of a fraction, its remark with it, from three quotients rounded down: of the number, of its negation, and of its double. So equal
+-- fractions have one place, and so have all fractions of a number that is far below their denominators. ℤ is read as a difference of naturals. Assumes nothing.
 use Prim.Native.Nat.{ℕ, _+_, _*_, _^_, _≤_, _<_}
 use mathlib.Core.Path.{_≡_, refl, sym, ap, _∙_}
 use mathlib.Core.Bool.{Bool, true, false, cond, _&&_}
@@ -15,7 +15,9 @@ use Rattle.whole.specs.Arith.{plus, minus, floorDiv}
 use Rattle.whole.specs.Order.{_≼_}
 use Rattle.whole.proofs.Ints.{size-is, neg-plus, neg-minus, add-is, sub-is, mul-plus, mul-minus, mul-size, Floored, floored, to-≤ℤ, of-≤ℤ, same}
 use Rattle.whole.proofs.Words.{fits-size}
+use Rattle.floats.specs.Grid.{seenFrom}
 use Rattle.floats.specs.Pattern.{placeAt}
+use Rattle.floats.specs.declared.Remark.the-variants.{Below, On, Above}
 use Rattle.floats.specs.declared.Place.{Place}
 
 -- products by naturals, compared
@@ -95,11 +97,15 @@ high-end w d D hi =
 
 -- ---- the place of w / d
 abbrev pub byFloors : ℤ → ℤ → ℤ → ℤ → ℤ → Place
-byFloors lo hi a b c = cond (leZ lo a && leZ (pos 0 -ℤ hi) b) (Place.At (floorDiv (c +ℤ pos 1) 2)) Place.Outside
+byFloors lo hi a b c =
+    let g = floorDiv (c +ℤ pos 1) 2 in
+    cond (leZ lo a && leZ (pos 0 -ℤ hi) b) (Place.At g (cond (leZ g a) (cond (leZ (pos 0 -ℤ g) b) On Above) Below)) Place.Outside
 
 pub by-floors : (lo hi w : ℤ) (d : ℕ) → 0 < d → placeAt lo hi w d ≡ byFloors lo hi (floorDiv w d) (floorDiv (pos 0 -ℤ w) d) (floorDiv (pos 2 *ℤ w) d)
 unfolding placeAt
-by-floors lo hi w d D = cc (low-end w d D lo, high-end w d D hi, halved w d D)
+by-floors lo hi w d D =
+    let g = floorDiv (floorDiv (pos 2 *ℤ w) d +ℤ pos 1) 2 in
+    rw (halved w d D, low-end w d D lo, high-end w d D hi, low-end w d D g, high-end w d D g)
 
 pub place-same : (lo hi w v : ℤ) (d e : ℕ) → 0 < d → 0 < e → w *ℤ pos e ≡ v *ℤ pos d → placeAt lo hi w d ≡ placeAt lo hi v e
 place-same lo hi w v d e D E h =
@@ -143,10 +149,13 @@ pub place-far : (lo hi w : ℤ) (d e : ℕ) → 0 < d → natAbs lo < e → natA
 unfolding placeAt
 place-far lo hi w d e D l h f = go (leZ (lo *ℤ pos d) w) (leZ w (hi *ℤ pos d)) (λ t. of-≤ℤ (lo *ℤ pos d) w (leZ-yes t)) (λ t. of-≤ℤ w (hi *ℤ pos d) (leZ-yes t))
   where
+    g : ℤ
+    g = floorDiv (pos 2 *ℤ w +ℤ pos d) (2 * d)
+
     near : (z : ℤ) → natAbs z < e → natAbs (z *ℤ pos d) < e * d
     near z h = omega (arith, mul-size z (pos d), mul-lt-mul-of-pos-right h D)
 
-    go : (a b : Bool) → (T a → (lo *ℤ pos d) ≼ w) → (T b → w ≼ (hi *ℤ pos d)) → Place.Outside ≡ cond (a && b) (Place.At (floorDiv (pos 2 *ℤ w +ℤ pos d) (2 * d))) Place.Outside
+    go : (a b : Bool) → (T a → (lo *ℤ pos d) ≼ w) → (T b → w ≼ (hi *ℤ pos d)) → Place.Outside ≡ cond (a && b) (Place.At g (seenFrom (g *ℤ pos d) w)) Place.Outside
     go false b g u = refl
     go true false g u = refl
     go true true g u = absurd (omega (arith, f, between (lo *ℤ pos d) (hi *ℤ pos d) w (e * d) (near lo l) (near hi h) (g tt) (u tt)))

@@ -15,7 +15,7 @@ use lib.Ieee.Exact.{HasValue, odd-sign}
 use lib.Ieee.Fits.{down-pos}
 use lib.Ieee.Bits.{ofBits-toBits}
 use Rattle.whole.proofs.Ints.{mul-plus, mul-minus, mul-size, same}
-use Rattle.floats.specs.Grid.{range, signed, finite, numer, denom, inside, gridNo, placeOf}
+use Rattle.floats.specs.Grid.{range, signed, finite, numer, denom, inside, gridNo, remarkOf, placeOf}
 use Rattle.floats.specs.Pattern.{digitsOf, placeAt}
 use Rattle.floats.specs.declared.Place.{Place}
 use Rattle.floats.proofs.Floors.{place-same, place-small, place-far}
@@ -28,7 +28,7 @@ signed-times true (suc n) d = refl
 
 -- the definition on the fraction
 place-is : (lo hi : ℤ) (k : ℕ) (x : Float) → T (finite x) → placeOf (range lo hi k) x ≡ placeAt lo hi (numer x *ℤ pos k) (denom x)
-unfolding placeOf inside gridNo placeAt
+unfolding placeOf inside gridNo remarkOf placeAt
 place-is lo hi k nan f = absurd f
 place-is lo hi k (inf s) f = absurd f
 place-is lo hi k (fin s m e) f = cc (twice (numer (fin s m e)))

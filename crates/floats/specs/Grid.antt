@@ -1,10 +1,12 @@
--- SPEC, "A reading": a float's exact value as a fraction, the range test on it, and its grid number.
+-- SPEC, "A reading": a float's exact value as a fraction, the range test on it, its grid number, and on which side of that it lies.
 use Prim.Native.Nat.{ℕ, _*_}
 use mathlib.Core.Bool.{Bool, true, false, cond, _&&_}
 use lib.IntN.{ℤ, pos, negℤ, _+ℤ_, _*ℤ_}
 use lib.Signed.{leZ, _≤ℤ_}
 use lib.Ieee.{Float, nan, inf, fin, up, down}
 use Rattle.whole.specs.Arith.{floorDiv}
+use Rattle.floats.specs.declared.Remark.{Remark}
+use Rattle.floats.specs.declared.Remark.the-variants.{Below, On, Above}
 use Rattle.floats.specs.declared.Place.{Place}
 
 -- neither a NaN nor an infinity
@@ -56,6 +58,20 @@ inside r x =
 unfoldable pub gridNo : ℕ → Float → ℤ
 gridNo k x = floorDiv (numer x *ℤ pos (2 * k) +ℤ pos (denom x)) (2 * denom x)
 
+-- v seen from g: below, on or above it
+abbrev pub seenFrom : ℤ → ℤ → Remark
+seenFrom g v = cond (leZ g v) (cond (leZ v g) On Above) Below
+
+-- the exact value times k seen from its grid number, by multiplying across: nothing is rounded
+unfoldable pub remarkOf : ℕ → Float → Remark
+remarkOf k x = seenFrom (gridNo k x *ℤ pos (denom x)) (numer x *ℤ pos k)
+
+-- a remark's number: the greater the value, of floats with one grid number, the greater the number. 0 is no remark's
+abbrev pub remarkNumber : Remark → ℕ
+remarkNumber Below = 1
+remarkNumber On = 2
+remarkNumber Above = 3
+
 -- the range test comes before the rounding
 unfoldable pub placeOf : Range → Float → Place
-placeOf r x = cond (inside r x) (Place.At (gridNo (r .steps) x)) Place.Outside
+placeOf r x = cond (inside r x) (Place.At (gridNo (r .steps) x) (remarkOf (r .steps) x)) Place.Outside

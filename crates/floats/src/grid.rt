@@ -1,4 +1,4 @@
-// A float's range test and its number on a grid of k steps to 1, by whole numbers on the float's bits: of floats there are
+// A float's range test, its number on a grid of k steps to 1 and on which side of it it lies, by whole numbers on the float's bits: of floats there are
 // comparisons only, so no rounding mode of the caller changes an answer, nor does one that takes denormals for 0.
 ghost use mathlib.Core.Path.{_≡_};
 ghost use Prim.Native.Nat.{_^_, _≤_, _<_};
@@ -6,6 +6,7 @@ ghost use lib.IntN.{natAbs};
 ghost use Rattle.floats.specs.Grid.{finite, placeOf, range};
 ghost use Rattle.floats.specs.Pattern.{digitsOf, placeAt};
 use crate::Place;
+use crate::Remark;
 
 // Neither a NaN nor an infinity.
 pub fn is_finite(x: f32) -> bool
@@ -29,14 +30,23 @@ fn digits(n: u32, e: u32) -> i64
 }
 
 // The place of w / 2^s. A shift rounds down, also below 0, so that lo is tested on w and hi on -w. Half steps rounded down,
-// and one more, halved: a half goes up.
+// and one more, halved: a half goes up. The same two tests of the number itself tell on which side of it w / 2^s lies.
 fn place_at(w: i64, s: u32, lo: i32, hi: i32) -> Place
     requires { ⌜ natAbs w < 2 ^ 44 ⌝ ∗ ⌜ s < 64 ⌝ }
     ensures { λ r. ⌜ r ≡ placeAt lo hi w (2 ^ s) ⌝ }
 {
-    if lo as i64 <= w >> s {
-        if -(hi as i64) <= -w >> s {
-            return Place::At(((2 * w >> s) + 1) >> 1);
+    let floor = w >> s;
+    let minus_ceiling = -w >> s;
+    if lo as i64 <= floor {
+        if -(hi as i64) <= minus_ceiling {
+            let number = ((2 * w >> s) + 1) >> 1;
+            if number <= floor {
+                if -number <= minus_ceiling {
+                    return Place::At(number, Remark::On);
+                }
+                return Place::At(number, Remark::Above);
+            }
+            return Place::At(number, Remark::Below);
         }
     }
     Place::Outside

@@ -1,14 +1,35 @@
 // What is said of one float, whatever it measures: its place on a grid, the float for the recorder, a float from its four
 // bytes. The inside of the engine: what `grid::place` asks for keeps its words from overflowing, and the calls above it see to it.
 ghost use mathlib.Core.Path.{_≡_};
+ghost use Rattle.floats.specs.Grid.{remarkNumber};
 ghost use Rattle.floats.specs.Recorder.{recorderOf};
 ghost use Rattle.floats.specs.Bytes.{floatOf};
 
 pub mod grid;
 
-// The answer of a range check: where a float stands on its grid.
+// On which side of its grid point a float's exact value lies.
+pub enum Remark {
+    Below,
+    On,
+    Above,
+}
+
+impl Remark {
+    // Its number, from 1: 0 is kept for none.
+    pub fn number(self) -> u32
+        ensures { λ r. ⌜ r ≡ remarkNumber self ⌝ }
+    {
+        match self {
+            Remark::Below => 1,
+            Remark::On => 2,
+            Remark::Above => 3,
+        }
+    }
+}
+
+// The answer of a range check: where a float stands on its grid, and on which side of that point it lies.
 pub enum Place {
-    At(i64),
+    At(i64, Remark),
     Outside,
 }
 

@@ -5,17 +5,20 @@ use mathlib.Core.Path.{_≡_, refl, sym, _∙_, subst, ap}
 use mathlib.Core.Option.{some}
 use native.Mathlib.Omega.{arith}
 use lib.Dec.{T}
+use lib.Ieee.{Float}
 use Rattle.refusals.specs.declared.Refusal.{Refusal}
 use Rattle.refusals.specs.declared.Unread.{Unread}
 use Rattle.refusals.specs.Number.{refusalOf}
 use Rattle.floats.specs.Grid.{inside}
+use Rattle.floats.specs.declared.Remark.the-variants.{On}
 use Rattle.readings.specs.declared.Point.{Point}
+use Rattle.readings.specs.declared.Remarks.{Remarks}
 use Rattle.readings.specs.declared.Purpose.{Purpose}
 use Rattle.readings.specs.declared.Report.{Report}
 use Rattle.readings.specs.declared.Reading.{Reading}
 use Rattle.readings.specs.declared.Checked.{Checked}
 use Rattle.readings.specs.Check.{salinities, givenOf, checkedOf}
-use Rattle.readings.proofs.Reasons.{OnGrid, Gridded, Reason}
+use Rattle.readings.proofs.Reasons.{OnGrid, Gridded, Remarked, Reason}
 use Rattle.readings.proofs.Answers as reading
 use Rattle.waters.specs.declared.Water.{Water}
 use Rattle.sea.specs.Water.{waterOf}
@@ -27,8 +30,8 @@ use Rattle.panel.specs.Panel.{filled, wateredOf, checkedChannel, channel
 
 -- a channel's three cases
 pub data Case : Entry → Channel → Type 0 where
-  accepted : (report : Report) (p : Point) (d k : ℕ) → checkedOf report ≡ Checked.Taken p → waterOf (p .sigma) (p .tau) (p .pi) ≡ Water.Known d k
-      → Case (Entry.Reading report) (Channel.Accepted p d k)
+  accepted : (report : Report) (p : Point) (d k : ℕ) (m : Remarks) → checkedOf report ≡ Checked.Taken p m → waterOf (p .sigma) (p .tau) (p .pi) ≡ Water.Known d k
+      → Case (Entry.Reading report) (Channel.Accepted p d k m)
   refused : (report : Report) (r : Refusal) → checkedOf report ≡ Checked.Refused r → Case (Entry.Reading report) (Channel.Refused r)
   no-record : (u : Unread) → Case (Entry.Refused u) (Channel.Refused (refusalOf u))
 
@@ -43,14 +46,15 @@ on-table p g =
       pressure = record { low = g .pi-low; high = g .pi-high };
     }
 
-by-water : (report : Report) (p : Point) → checkedOf report ≡ Checked.Taken p → (w : Water) → waterOf (p .sigma) (p .tau) (p .pi) ≡ w → Case (Entry.Reading report) (filled p w)
-by-water report p c (Water.Known d k) e = accepted report p d k c e
-by-water report p c (Water.Refused r) e =
-    absurd (unknown (sym (known-on-table (p .sigma) (p .tau) (p .pi) (on-table p (reading.taken-on-grid Purpose.Density report p c))) ∙ e))
+by-water : (report : Report) (p : Point) (m : Remarks) → checkedOf report ≡ Checked.Taken p m → (w : Water) → waterOf (p .sigma) (p .tau) (p .pi) ≡ w
+    → Case (Entry.Reading report) (filled p m w)
+by-water report p m c (Water.Known d k) e = accepted report p d k m c e
+by-water report p m c (Water.Refused r) e =
+    absurd (unknown (sym (known-on-table (p .sigma) (p .tau) (p .pi) (on-table p (reading.taken-on-grid Purpose.Density report p m c))) ∙ e))
 
 by-check : (report : Report) (c : Checked) → checkedOf report ≡ c → Case (Entry.Reading report) (checkedChannel c)
 unfolding wateredOf
-by-check report (Checked.Taken p) e = by-water report p e (waterOf (p .sigma) (p .tau) (p .pi)) refl
+by-check report (Checked.Taken p m) e = by-water report p m e (waterOf (p .sigma) (p .tau) (p .pi)) refl
 by-check report (Checked.Refused r) e = refused report r e
 
 pub case-of : (e : Entry) → Case e (channelOf e)
@@ -58,27 +62,28 @@ unfolding channelOf
 case-of (Entry.Reading report) = by-check report (checkedOf report) refl
 case-of (Entry.Refused u) = no-record u
 
--- ---- an accepted reading's point has the grid numbers of its floats
-pub accepted-gridded :
-    (report : Report) (r : Reading) (p : Point) (d k : ℕ) →
-    givenOf report ≡ some r →
-    channelOf (Entry.Reading report) ≡ Channel.Accepted p d k →
-    Gridded r p
-accepted-gridded report r p d k g e = go (subst (Case (Entry.Reading report)) e (case-of (Entry.Reading report)))
+-- ---- an accepted reading's point has the grid numbers of its floats, its remarks are theirs, and its salinity was inside the range
+accepted-taken : (report : Report) (p : Point) (d k : ℕ) (m : Remarks) → channelOf (Entry.Reading report) ≡ Channel.Accepted p d k m → checkedOf report ≡ Checked.Taken p m
+accepted-taken report p d k m e = go (subst (Case (Entry.Reading report)) e (case-of (Entry.Reading report)))
   where
-    go : Case (Entry.Reading report) (Channel.Accepted p d k) → Gridded r p
-    go (accepted _ _ _ _ c w) = reading.taken-gridded Purpose.Density report r p g c
+    go : Case (Entry.Reading report) (Channel.Accepted p d k m) → checkedOf report ≡ Checked.Taken p m
+    go (accepted _ _ _ _ _ c w) = c
 
--- and its salinity was inside the range
-pub accepted-inside :
-    (report : Report) (r : Reading) (p : Point) (d k : ℕ) →
-    givenOf report ≡ some r →
-    channelOf (Entry.Reading report) ≡ Channel.Accepted p d k →
-    T (inside salinities (r .salinity))
-accepted-inside report r p d k g e = go (subst (Case (Entry.Reading report)) e (case-of (Entry.Reading report)))
-  where
-    go : Case (Entry.Reading report) (Channel.Accepted p d k) → T (inside salinities (r .salinity))
-    go (accepted _ _ _ _ c w) = reading.taken-inside Purpose.Density report r p g c
+module _
+    (report : Report) (r : Reading) (p : Point) (d k : ℕ) (m : Remarks)
+    (g : givenOf report ≡ some r) (e : channelOf (Entry.Reading report) ≡ Channel.Accepted p d k m) where
+  pub accepted-gridded : Gridded r p
+  accepted-gridded = reading.taken-gridded Purpose.Density report r p m g (accepted-taken report p d k m e)
+
+  pub accepted-remarked : Remarked r m
+  accepted-remarked = reading.taken-remarked Purpose.Density report r p m g (accepted-taken report p d k m e)
+
+  pub accepted-inside : T (inside salinities (r .salinity))
+  accepted-inside = reading.taken-inside Purpose.Density report r p m g (accepted-taken report p d k m e)
+
+-- a probe at the surface: its pressure is on
+pub surface-on : (s t : Float) (p : Point) (d k : ℕ) (m : Remarks) → channelOf (Entry.Reading (Report.Surface s t)) ≡ Channel.Accepted p d k m → m .pressure ≡ On
+surface-on s t p d k m e = reading.surface-on Purpose.Density s t p m (accepted-taken (Report.Surface s t) p d k m e)
 
 -- ---- a reading is refused only for a listed reason
 pub refused-only : (report : Report) (r : Refusal) → channelOf (Entry.Reading report) ≡ Channel.Refused r → Reason Purpose.Density report r

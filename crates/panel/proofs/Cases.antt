@@ -8,6 +8,7 @@ use Rattle.sea.specs.Table.{Dw, Ds, Dr, Dss, Kw, Ks, Kr, Aw, As, Ar, Bw, Bs}
 use Rattle.sea.specs.Recipe.{rowsAt, rootAt, surface, K0, A, B, bulk, mass, net, gain, density, shown, bulkOf, shownOf, shownAt}
 use Rattle.refusals.specs.declared.Refusal.{Refusal}
 use Rattle.readings.specs.declared.Point.{Point}
+use Rattle.readings.specs.declared.Remarks.{Remarks}
 use Rattle.channels.specs.declared.Channel.{Channel}
 use Rattle.channels.specs.declared.Needle.{Needle}
 use Rattle.panel.specs.Panel.{needleOf}
@@ -19,25 +20,25 @@ salt π = record { sigma = pos 35_000; tau = pos 5_000; pi = pos π }
 abbrev warm : ℕ → Point
 warm π = record { sigma = pos 0; tau = pos 25_000; pi = pos π }
 
--- whatever the channels show: 1,037,902 − 1,069,489 wherever one of the two stands at 1,000 bar, 997,048 − 1,027,675 where both are at the
+-- whatever the channels show and remark: 1,037,902 − 1,069,489 wherever one of the two stands at 1,000 bar, 997,048 − 1,027,675 where both are at the
 -- surface; and the other way round
 pub needles :
-    (d k c j : ℕ) →
-    (needleOf (Channel.Accepted (salt 100_000) d k) (Channel.Accepted (warm 0) c j) ≡ Needle.Value (neg 31_587))
-    × ((needleOf (Channel.Accepted (salt 0) d k) (Channel.Accepted (warm 100_000) c j) ≡ Needle.Value (neg 31_587))
-    × ((needleOf (Channel.Accepted (salt 0) d k) (Channel.Accepted (warm 0) c j) ≡ Needle.Value (neg 30_627))
-    × ((needleOf (Channel.Accepted (warm 0) d k) (Channel.Accepted (salt 100_000) c j) ≡ Needle.Value (pos 31_587))
-    × ((needleOf (Channel.Accepted (warm 100_000) d k) (Channel.Accepted (salt 0) c j) ≡ Needle.Value (pos 31_587))
-    × (needleOf (Channel.Accepted (salt 0) d k) (Channel.Accepted (salt 100_000) c j) ≡ Needle.Value (pos 0))))))
+    (d k c j : ℕ) (m n : Remarks) →
+    (needleOf (Channel.Accepted (salt 100_000) d k m) (Channel.Accepted (warm 0) c j n) ≡ Needle.Value (neg 31_587))
+    × ((needleOf (Channel.Accepted (salt 0) d k m) (Channel.Accepted (warm 100_000) c j n) ≡ Needle.Value (neg 31_587))
+    × ((needleOf (Channel.Accepted (salt 0) d k m) (Channel.Accepted (warm 0) c j n) ≡ Needle.Value (neg 30_627))
+    × ((needleOf (Channel.Accepted (warm 0) d k m) (Channel.Accepted (salt 100_000) c j n) ≡ Needle.Value (pos 31_587))
+    × ((needleOf (Channel.Accepted (warm 100_000) d k m) (Channel.Accepted (salt 0) c j n) ≡ Needle.Value (pos 31_587))
+    × (needleOf (Channel.Accepted (salt 0) d k m) (Channel.Accepted (salt 100_000) c j n) ≡ Needle.Value (pos 0))))))
 unfolding scaled rowValue rootFrom rootOf Dw Ds Dr Dss Kw Ks Kr Aw As Ar Bw Bs rowsAt rootAt surface K0 A B bulk mass net gain density shown bulkOf shownOf shownAt
-needles d k c j = (refl, (refl, (refl, (refl, (refl, refl)))))
+needles d k c j m n = (refl, (refl, (refl, (refl, (refl, refl)))))
 
 abbrev no : Channel
 no = Channel.Refused Refusal.Temperature
 
 -- refused on the left, on the right, on both
 pub no-needles :
-    (p : Point) (d k : ℕ) →
-    (needleOf no (Channel.Accepted p d k) ≡ Needle.Refused 104) × ((needleOf (Channel.Accepted p d k) no ≡ Needle.Refused 204)
+    (p : Point) (d k : ℕ) (m : Remarks) →
+    (needleOf no (Channel.Accepted p d k m) ≡ Needle.Refused 104) × ((needleOf (Channel.Accepted p d k m) no ≡ Needle.Refused 204)
     × (needleOf (Channel.Refused Refusal.Missing) no ≡ Needle.Refused 101))
-no-needles p d k = (refl, (refl, refl))
+no-needles p d k m = (refl, (refl, refl))

@@ -7,6 +7,7 @@ use lib.IntN.{ℤ, pos, negℤ, natAbs, _-ℤ_}
 use Rattle.whole.specs.Arith.{plus}
 use Rattle.whole.proofs.Ints.{same, size-is, sub-is, neg-plus, neg-minus}
 use Rattle.readings.specs.declared.Point.{Point}
+use Rattle.readings.specs.declared.Remarks.{Remarks}
 use Rattle.readings.specs.declared.Entry.{Entry}
 use Rattle.channels.specs.declared.Channel.{Channel}
 use Rattle.channels.specs.declared.Needle.{Needle}
@@ -37,9 +38,9 @@ never e = let x : _≡_ {A = ℕ} 0 1 = cc in omega arith
 
 -- swapped: the sign turns. The pressure that both are put under is the same, whichever stands left
 pub swapped : (l r : Channel) (z : ℤ) → needleOf l r ≡ Needle.Value z → needleOf r l ≡ Needle.Value (negℤ z)
-swapped (Channel.Accepted p d k) (Channel.Accepted q c j) z e =
+swapped (Channel.Accepted p d k m) (Channel.Accepted q c j n) z e =
     ap Needle.Value (rw (← taken e, common-either p q) (turned (shownUnder (common p q) p) (shownUnder (common p q) q)))
-swapped (Channel.Accepted p d k) (Channel.Refused s) z e = absurd (never e)
+swapped (Channel.Accepted p d k m) (Channel.Refused s) z e = absurd (never e)
 swapped (Channel.Refused s) r z e = absurd (never e)
 
 -- and the size stays
@@ -51,16 +52,29 @@ pub record Both (l r : Channel) : Type 0 where
   pub left-at : Point
   pub left-density : ℕ
   pub left-bulk : ℕ
-  pub left-is : l ≡ Channel.Accepted left-at left-density left-bulk
+  pub left-remarks : Remarks
+  pub left-is : l ≡ Channel.Accepted left-at left-density left-bulk left-remarks
   pub right-at : Point
   pub right-density : ℕ
   pub right-bulk : ℕ
-  pub right-is : r ≡ Channel.Accepted right-at right-density right-bulk
+  pub right-remarks : Remarks
+  pub right-is : r ≡ Channel.Accepted right-at right-density right-bulk right-remarks
 
 pub value-accepted : (l r : Channel) (z : ℤ) → needleOf l r ≡ Needle.Value z → Both l r
-value-accepted (Channel.Accepted p d k) (Channel.Accepted q c j) z e =
-    record { left-at = p; left-density = d; left-bulk = k; left-is = refl; right-at = q; right-density = c; right-bulk = j; right-is = refl }
-value-accepted (Channel.Accepted p d k) (Channel.Refused s) z e = absurd (never e)
+value-accepted (Channel.Accepted p d k m) (Channel.Accepted q c j n) z e =
+    record {
+      left-at = p;
+      left-density = d;
+      left-bulk = k;
+      left-remarks = m;
+      left-is = refl;
+      right-at = q;
+      right-density = c;
+      right-bulk = j;
+      right-remarks = n;
+      right-is = refl;
+    }
+value-accepted (Channel.Accepted p d k m) (Channel.Refused s) z e = absurd (never e)
 value-accepted (Channel.Refused s) r z e = absurd (never e)
 
 -- ---- what the hatchery asks
@@ -69,17 +83,17 @@ nought : (n : ℕ) → pos n -ℤ pos n ≡ pos 0
 nought n = same (pos n -ℤ pos n) (pos 0) (omega (arith, sub-is (pos n) (pos n)))
 
 pub same-water :
-    (l r : Channel) (p q : Point) (d k c j : ℕ) → l ≡ Channel.Accepted p d k → r ≡ Channel.Accepted q c j →
+    (l r : Channel) (p q : Point) (d k c j : ℕ) (m n : Remarks) → l ≡ Channel.Accepted p d k m → r ≡ Channel.Accepted q c j n →
     p .sigma ≡ q .sigma → p .tau ≡ q .tau → needleOf l r ≡ Needle.Value (pos 0)
-same-water l r p q d k c j e f s t = rw (e, f, s, t) (ap Needle.Value (nought (shownUnder (common p q) q)))
+same-water l r p q d k c j m n e f s t = rw (e, f, s, t) (ap Needle.Value (nought (shownUnder (common p q) q)))
 
 -- at equal pressures: the difference of the densities that the two channels show
 pub level :
-    (l r : Entry) (p q : Point) (d k c j : ℕ) → channelOf l ≡ Channel.Accepted p d k → channelOf r ≡ Channel.Accepted q c j →
+    (l r : Entry) (p q : Point) (d k c j : ℕ) (m n : Remarks) → channelOf l ≡ Channel.Accepted p d k m → channelOf r ≡ Channel.Accepted q c j n →
     p .pi ≡ q .pi → needleOf (channelOf l) (channelOf r) ≡ Needle.Value (pos c -ℤ pos d)
-level l r p q d k c j e f h =
-    let a : shownUnder (common p q) p ≡ d = rw (common-level p q h) (sym (accepted-shows l p d k e .density-is)) in
-    let b : shownUnder (common p q) q ≡ c = rw (common-level p q h, h) (sym (accepted-shows r q c j f .density-is)) in
+level l r p q d k c j m n e f h =
+    let a : shownUnder (common p q) p ≡ d = rw (common-level p q h) (sym (accepted-shows l p d k m e .density-is)) in
+    let b : shownUnder (common p q) q ≡ c = rw (common-level p q h, h) (sym (accepted-shows r q c j n f .density-is)) in
     rw (e, f, a, b)
 
 -- ---- each channel depends on its own reading only: whatever stands in the other one

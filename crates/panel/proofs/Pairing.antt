@@ -15,6 +15,7 @@ use Rattle.sea.proofs.Answers.{known-on-table, sounding-on-table}
 use Rattle.sea.proofs.Grid.{natural, lies-natural}
 use Rattle.refusals.specs.declared.Refusal.{Refusal}
 use Rattle.readings.specs.declared.Point.{Point}
+use Rattle.readings.specs.declared.Remarks.{Remarks}
 use Rattle.readings.specs.declared.Purpose.{Purpose}
 use Rattle.readings.specs.declared.Checked.{Checked}
 use Rattle.readings.specs.declared.Entry.{Entry}
@@ -29,21 +30,22 @@ use Rattle.panel.proofs.Needles.{common-either}
 
 -- what stands in a channel, put on the grid: a point of the table, or a refusal
 data Placed : Checked → Type 0 where
-  at : (p : Point) → OnTable (p .sigma) (p .tau) (p .pi) → Placed (Checked.Taken p)
+  at : (p : Point) (m : Remarks) → OnTable (p .sigma) (p .tau) (p .pi) → Placed (Checked.Taken p m)
   nowhere : (r : Refusal) → Placed (Checked.Refused r)
 
-by-check : (c : Checked) → ((p : Point) → c ≡ Checked.Taken p → OnTable (p .sigma) (p .tau) (p .pi)) → Placed c
-by-check (Checked.Taken p) t = at p (t p refl)
+by-check : (c : Checked) → ((p : Point) (m : Remarks) → c ≡ Checked.Taken p m → OnTable (p .sigma) (p .tau) (p .pi)) → Placed c
+by-check (Checked.Taken p m) t = at p m (t p m refl)
 by-check (Checked.Refused r) t = nowhere r
 
 placed : (e : Entry) → Placed (entered e)
-placed (Entry.Reading report) = by-check _ (λ p e. on-table p (taken-on-grid Purpose.Density report p e))
+placed (Entry.Reading report) = by-check _ (λ p m e. on-table p (taken-on-grid Purpose.Density report p m e))
 placed (Entry.Refused u) = nowhere _
 
 -- a point on the table is accepted
-accepted-at : (p : Point) → OnTable (p .sigma) (p .tau) (p .pi) → wateredOf p ≡ Channel.Accepted p (shownUnder (plus (p .pi)) p) (modulusAt (plus (p .sigma)) (p .tau) (plus (p .pi)))
+accepted-at : (p : Point) (m : Remarks) → OnTable (p .sigma) (p .tau) (p .pi)
+    → wateredOf p m ≡ Channel.Accepted p (shownUnder (plus (p .pi)) p) (modulusAt (plus (p .sigma)) (p .tau) (plus (p .pi))) m
 unfolding wateredOf
-accepted-at p t = ap (filled p) (known-on-table (p .sigma) (p .tau) (p .pi) t)
+accepted-at p m t = ap (filled p m) (known-on-table (p .sigma) (p .tau) (p .pi) t)
 
 -- the greater of two pressures that are not negative
 greater : (x y : ℤ) → minus x ≡ 0 → minus y ≡ 0 → cond (ltZ x y) y x ≡ pos (max (plus x) (plus y))
@@ -56,11 +58,11 @@ greater (pos m) (negsuc n) e f = absurd (let g : ⊥ = omega arith in g)
 greater (negsuc m) y e f = absurd (let g : ⊥ = omega arith in g)
 
 whole : {c : Checked} → Placed c → minus (pressureOf c) ≡ 0
-whole (at p t) = natural (t .pressure) .whole
+whole (at p m t) = natural (t .pressure) .whole
 whole (nowhere r) = refl
 
 most : {c : Checked} → Placed c → plus (pressureOf c) ≤ 100_000
-most (at p t) = natural (t .pressure) .most
+most (at p m t) = natural (t .pressure) .most
 most (nowhere r) = omega arith
 
 common-is : {a b : Checked} → Placed a → Placed b → commonOf a b ≡ pos (max (plus (pressureOf a)) (plus (pressureOf b)))
@@ -68,13 +70,13 @@ unfolding commonOf
 common-is {a} {b} h g = greater (pressureOf a) (pressureOf b) (whole h) (whole g)
 
 -- a side whose reading was taken, and one that was refused
-beside-taken : (p : Point) {b : Checked} (t : OnTable (p .sigma) (p .tau) (p .pi)) → Placed b →
-    besideOf (Checked.Taken p) b ≡ record { channel = wateredOf p; under = shownUnder (max (plus (p .pi)) (plus (pressureOf b))) p }
+beside-taken : (p : Point) (m : Remarks) {b : Checked} (t : OnTable (p .sigma) (p .tau) (p .pi)) → Placed b →
+    besideOf (Checked.Taken p m) b ≡ record { channel = wateredOf p m; under = shownUnder (max (plus (p .pi)) (plus (pressureOf b))) p }
 unfolding besideOf
-beside-taken p {b} t g =
+beside-taken p m {b} t g =
     let n = max (plus (p .pi)) (plus (pressureOf b)) in
-    let h : n ≤ 100_000 = omega (arith, most (at p t), most g) in
-    rw (common-is (at p t) g, sounding-on-table (p .sigma) (p .tau) (p .pi) (pos n) t (lies-natural h), accepted-at p t)
+    let h : n ≤ 100_000 = omega (arith, most (at p m t), most g) in
+    rw (common-is (at p m t) g, sounding-on-table (p .sigma) (p .tau) (p .pi) (pos n) t (lies-natural h), accepted-at p m t)
 
 beside-refused : (r : Refusal) (b : Checked) → besideOf (Checked.Refused r) b ≡ record { channel = Channel.Refused r; under = 0 }
 unfolding besideOf
@@ -82,14 +84,14 @@ beside-refused r b = refl
 
 needle-placed : {a b : Checked} → Placed a → Placed b → needleBetween (besideOf a b) (besideOf b a) ≡ needleOf (checkedChannel a) (checkedChannel b)
 needle-placed (nowhere r) g = rw (beside-refused r _) refl
-needle-placed (at p t) (nowhere r) = rw (beside-taken p t (nowhere r), beside-refused r (Checked.Taken p), accepted-at p t) refl
-needle-placed (at p t) (at q u) =
-    rw (beside-taken p t (at q u), beside-taken q u (at p t), accepted-at p t, accepted-at q u) (
+needle-placed (at p m t) (nowhere r) = rw (beside-taken p m t (nowhere r), beside-refused r (Checked.Taken p m), accepted-at p m t) refl
+needle-placed (at p m t) (at q n u) =
+    rw (beside-taken p m t (at q n u), beside-taken q n u (at p m t), accepted-at p m t, accepted-at q n u) (
     ap (λ (n : ℕ). Needle.Value (pos (shownUnder n q) -ℤ pos (shownUnder (common p q) p))) (common-either p q)
     )
 
 channel-placed : {a b : Checked} → Placed a → Placed b → (besideOf a b) .channel ≡ checkedChannel a
-channel-placed (at p t) g = ap (λ (s : Side). s .channel) (beside-taken p t g)
+channel-placed (at p m t) g = ap (λ (s : Side). s .channel) (beside-taken p m t g)
 channel-placed (nowhere r) g = ap (λ (s : Side). s .channel) (beside-refused r _)
 
 compared-beside : (l r : Entry) → comparedFrom (besideOf (entered l) (entered r)) (besideOf (entered r) (entered l)) ≡ comparisonOf l r

@@ -10,8 +10,10 @@ use Rattle.sea.specs.Recipe.{rowsAt, rootAt, surface, K0, A, B, bulk, hundredth
 use Rattle.sea.specs.Water.{rangeOf, waterOf}
 use Rattle.refusals.specs.declared.Refusal.{Refusal}
 use Rattle.floats.specs.Bytes.{floatOf}
-use Rattle.floats.specs.Grid.{inside, gridNo, placeOf}
+use Rattle.floats.specs.Grid.{inside, gridNo, remarkOf, placeOf}
+use Rattle.floats.specs.declared.Remark.the-variants.{Below, On, Above}
 use Rattle.readings.specs.Check.{placedFor, checkedFor}
+use Rattle.readings.specs.declared.Remarks.{Remarks}
 use Rattle.readings.specs.declared.Report.{Report}
 use Rattle.readings.specs.declared.Entry.{Entry}
 use Rattle.channels.specs.declared.Channel.{Channel}
@@ -26,12 +28,16 @@ fresh = Entry.Reading (Report.Surface (floatOf 0x00 0x00 0x00 0x00) (floatOf 0x0
 abbrev pub salt : Entry
 salt = Entry.Reading (Report.Surface (floatOf 0x00 0x00 0x0C 0x42) (floatOf 0x00 0x00 0xA0 0x40))
 
-pub fresh-is : channelOf fresh ≡ Channel.Accepted (record { sigma = pos 0; tau = pos 5_000; pi = pos 0 }) 999_967 2_033_780
-unfolding ofBits channelOf checkedFor placedFor placeOf inside gridNo wateredOf waterOf rangeOf scaled rowValue rootFrom rootOf Dw Ds Dr Dss Kw Ks Kr Aw As Ar Bw Bs rowsAt rootAt surface K0 A B bulk hundredths mass net gain density shown bulkOf shownOf shownAt modulusAt
+-- all of their floats are on the grid
+abbrev pub exact : Remarks
+exact = record { salinity = On; temperature = On; pressure = On }
+
+pub fresh-is : channelOf fresh ≡ Channel.Accepted (record { sigma = pos 0; tau = pos 5_000; pi = pos 0 }) 999_967 2_033_780 exact
+unfolding ofBits channelOf checkedFor placedFor placeOf inside gridNo remarkOf wateredOf waterOf rangeOf scaled rowValue rootFrom rootOf Dw Ds Dr Dss Kw Ks Kr Aw As Ar Bw Bs rowsAt rootAt surface K0 A B bulk hundredths mass net gain density shown bulkOf shownOf shownAt modulusAt
 fresh-is = refl
 
-pub salt-is : channelOf salt ≡ Channel.Accepted (record { sigma = pos 35_000; tau = pos 5_000; pi = pos 0 }) 1_027_675 2_218_593
-unfolding ofBits channelOf checkedFor placedFor placeOf inside gridNo wateredOf waterOf rangeOf scaled rowValue rootFrom rootOf Dw Ds Dr Dss Kw Ks Kr Aw As Ar Bw Bs rowsAt rootAt surface K0 A B bulk hundredths mass net gain density shown bulkOf shownOf shownAt modulusAt
+pub salt-is : channelOf salt ≡ Channel.Accepted (record { sigma = pos 35_000; tau = pos 5_000; pi = pos 0 }) 1_027_675 2_218_593 exact
+unfolding ofBits channelOf checkedFor placedFor placeOf inside gridNo remarkOf wateredOf waterOf rangeOf scaled rowValue rootFrom rootOf Dw Ds Dr Dss Kw Ks Kr Aw As Ar Bw Bs rowsAt rootAt surface K0 A B bulk hundredths mass net gain density shown bulkOf shownOf shownAt modulusAt
 salt-is = refl
 
 pub nothing-is : channelOf (Entry.Reading Report.Missing) ≡ Channel.Refused Refusal.Missing
@@ -42,27 +48,35 @@ nothing-is = refl
 abbrev pub deep : Entry
 deep = Entry.Reading (Report.Deep (floatOf 0x00 0x00 0x0C 0x42) (floatOf 0x00 0x00 0xA0 0x40) (floatOf 0x00 0x00 0x7A 0x44))
 
-pub deep-is : channelOf deep ≡ Channel.Accepted (record { sigma = pos 35_000; tau = pos 5_000; pi = pos 100_000 }) 1_069_489 2_557_749
-unfolding ofBits channelOf checkedFor placedFor placeOf inside gridNo wateredOf waterOf rangeOf scaled rowValue rootFrom rootOf Dw Ds Dr Dss Kw Ks Kr Aw As Ar Bw Bs rowsAt rootAt surface K0 A B bulk hundredths mass net gain density shown bulkOf shownOf shownAt modulusAt
+pub deep-is : channelOf deep ≡ Channel.Accepted (record { sigma = pos 35_000; tau = pos 5_000; pi = pos 100_000 }) 1_069_489 2_557_749 exact
+unfolding ofBits channelOf checkedFor placedFor placeOf inside gridNo remarkOf wateredOf waterOf rangeOf scaled rowValue rootFrom rootOf Dw Ds Dr Dss Kw Ks Kr Aw As Ar Bw Bs rowsAt rootAt surface K0 A B bulk hundredths mass net gain density shown bulkOf shownOf shownAt modulusAt
 deep-is = refl
+
+-- the nearest floats of 34.999 and -0.1 °C, which lie above and below, at 1,000 bar
+abbrev off : Entry
+off = Entry.Reading (Report.Deep (floatOf 0xFA 0xFE 0x0B 0x42) (floatOf 0xCD 0xCC 0xCC 0xBD) (floatOf 0x00 0x00 0x7A 0x44))
+
+pub off-is : channelOf off ≡ Channel.Accepted (record { sigma = pos 34_999; tau = neg 100; pi = pos 100_000 }) 1_070_986 2_497_928 (record { salinity = Above; temperature = Below; pressure = On })
+unfolding ofBits channelOf checkedFor placedFor placeOf inside gridNo remarkOf wateredOf waterOf rangeOf scaled rowValue rootFrom rootOf Dw Ds Dr Dss Kw Ks Kr Aw As Ar Bw Bs rowsAt rootAt surface K0 A B bulk hundredths mass net gain density shown bulkOf shownOf shownAt modulusAt
+off-is = refl
 
 -- ---- needles
 -- of the first two, at one pressure, the difference of their densities
 pub needle-is : needleOf (channelOf fresh) (channelOf salt) ≡ Needle.Value (pos 27_708)
 needle-is =
-    level fresh salt (record { sigma = pos 0; tau = pos 5_000; pi = pos 0 }) (record { sigma = pos 35_000; tau = pos 5_000; pi = pos 0 }) 999_967 2_033_780 1_027_675 2_218_593
+    level fresh salt (record { sigma = pos 0; tau = pos 5_000; pi = pos 0 }) (record { sigma = pos 35_000; tau = pos 5_000; pi = pos 0 }) 999_967 2_033_780 1_027_675 2_218_593 exact exact
     fresh-is salt-is refl
 
 -- of the first and the last: the fresh water's density at 1,000 bar is 1,044,128, so that the needle is 25,361 and not the 69,522 between the two
 -- that are shown
-at-depth : (d k c j : ℕ) →
-    needleOf (Channel.Accepted (record { sigma = pos 0; tau = pos 5_000; pi = pos 0 }) d k) (Channel.Accepted (record { sigma = pos 35_000; tau = pos 5_000; pi = pos 100_000 }) c j) ≡
+at-depth : (d k c j : ℕ) (m n : Remarks) →
+    needleOf (Channel.Accepted (record { sigma = pos 0; tau = pos 5_000; pi = pos 0 }) d k m) (Channel.Accepted (record { sigma = pos 35_000; tau = pos 5_000; pi = pos 100_000 }) c j n) ≡
     Needle.Value (pos 25_361)
 unfolding scaled rowValue rootFrom rootOf Dw Ds Dr Dss Kw Ks Kr Aw As Ar Bw Bs rowsAt rootAt surface K0 A B bulk mass net gain density shown bulkOf shownOf shownAt
-at-depth d k c j = refl
+at-depth d k c j m n = refl
 
 pub deep-needle-is : needleOf (channelOf fresh) (channelOf deep) ≡ Needle.Value (pos 25_361)
-deep-needle-is = ap₂ needleOf fresh-is deep-is ∙ at-depth 999_967 2_033_780 1_069_489 2_557_749
+deep-needle-is = ap₂ needleOf fresh-is deep-is ∙ at-depth 999_967 2_033_780 1_069_489 2_557_749 exact exact
 
 pub turned-needle-is : needleOf (channelOf deep) (channelOf fresh) ≡ Needle.Value (neg 25_361)
 turned-needle-is = swapped (channelOf fresh) (channelOf deep) (pos 25_361) deep-needle-is

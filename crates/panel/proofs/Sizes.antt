@@ -14,6 +14,7 @@ use Rattle.refusals.specs.declared.Unread.{Unread}
 use Rattle.refusals.specs.Number.{numberOf, refusalOf}
 use Rattle.readings.specs.declared.Report.{Report}
 use Rattle.readings.specs.declared.Point.{Point}
+use Rattle.readings.specs.declared.Remarks.{Remarks}
 use Rattle.readings.specs.declared.Purpose.{Purpose}
 use Rattle.readings.proofs.Reasons.{Reason, missing, not-finite, salinity, temperature, pressure}
 use Rattle.readings.proofs.Answers as reading
@@ -26,21 +27,21 @@ use Rattle.channels.specs.declared.Needle.{Needle}
 use Rattle.panel.specs.Panel.{channelOf, common, shownUnder, needleOf}
 use Rattle.panel.proofs.Answers.{Case, accepted, refused, no-record, case-of}
 
-pub accepted-shows : (e : Entry) (p : Point) (d k : ℕ) → channelOf e ≡ Channel.Accepted p d k → Shown (p .sigma) (p .tau) (p .pi) d k
-accepted-shows e p d k h = go e (subst (Case e) h (case-of e))
+pub accepted-shows : (e : Entry) (p : Point) (d k : ℕ) (m : Remarks) → channelOf e ≡ Channel.Accepted p d k m → Shown (p .sigma) (p .tau) (p .pi) d k
+accepted-shows e p d k m h = go e (subst (Case e) h (case-of e))
   where
-    go : (e : Entry) → Case e (Channel.Accepted p d k) → Shown (p .sigma) (p .tau) (p .pi) d k
-    go _ (accepted report _ _ _ c w) = known-shows (p .sigma) (p .tau) (p .pi) w
+    go : (e : Entry) → Case e (Channel.Accepted p d k m) → Shown (p .sigma) (p .tau) (p .pi) d k
+    go _ (accepted report _ _ _ _ c w) = known-shows (p .sigma) (p .tau) (p .pi) w
 
-pub accepted-table : (e : Entry) (p : Point) (d k : ℕ) → channelOf e ≡ Channel.Accepted p d k → OnTable (p .sigma) (p .tau) (p .pi)
-accepted-table e p d k h = go e (subst (Case e) h (case-of e))
+pub accepted-table : (e : Entry) (p : Point) (d k : ℕ) (m : Remarks) → channelOf e ≡ Channel.Accepted p d k m → OnTable (p .sigma) (p .tau) (p .pi)
+accepted-table e p d k m h = go e (subst (Case e) h (case-of e))
   where
-    go : (e : Entry) → Case e (Channel.Accepted p d k) → OnTable (p .sigma) (p .tau) (p .pi)
-    go _ (accepted report _ _ _ c w) = known-is-on-table (p .sigma) (p .tau) (p .pi) w
+    go : (e : Entry) → Case e (Channel.Accepted p d k m) → OnTable (p .sigma) (p .tau) (p .pi)
+    go _ (accepted report _ _ _ _ c w) = known-is-on-table (p .sigma) (p .tau) (p .pi) w
 
 -- a density of seven digits at most, or a refusal's number of one
 abbrev pub Small : Channel → Type 0
-Small (Channel.Accepted p d k) = d < 10_000_000
+Small (Channel.Accepted p d k m) = d < 10_000_000
 Small (Channel.Refused r) = numberOf r < 10
 
 reason-small : {report : Report} {r : Refusal} → Reason Purpose.Density report r → numberOf r < 10
@@ -56,7 +57,7 @@ unread-small Unread.Kind = lit< tt
 unread-small Unread.Length = lit< tt
 
 by-case : {e : Entry} {c : Channel} → Case e c → Small c
-by-case (accepted report p d k c w) = let s = known-shows (p .sigma) (p .tau) (p .pi) w in omega (arith, s .density-high)
+by-case (accepted report p d k m c w) = let s = known-shows (p .sigma) (p .tau) (p .pi) w in omega (arith, s .density-high)
 by-case (refused report r c) = reason-small (reading.refused-only Purpose.Density report r c)
 by-case (no-record u) = unread-small u
 
@@ -64,8 +65,8 @@ pub shown-small : (e : Entry) → Small (channelOf e)
 shown-small e = by-case (case-of e)
 
 -- put back on the grid of 0.001, the recorder's float gives the shown number
-pub recorded-back : (e : Entry) (p : Point) (d k : ℕ) → channelOf e ≡ Channel.Accepted p d k → gridNo 1000 (recorderOf d) ≡ pos d
-recorded-back e p d k h = recorder-back d (let s = accepted-shows e p d k h in omega (arith, s .density-high))
+pub recorded-back : (e : Entry) (p : Point) (d k : ℕ) (m : Remarks) → channelOf e ≡ Channel.Accepted p d k m → gridNo 1000 (recorderOf d) ≡ pos d
+recorded-back e p d k m h = recorder-back d (let s = accepted-shows e p d k m h in omega (arith, s .density-high))
 
 -- ---- so is a needle: below 200,000 either way, or a number of three digits
 abbrev pub SmallNeedle : Needle → Type 0
@@ -89,9 +90,9 @@ difference-small a b h g = go (pos b -ℤ pos a) (sub-is (pos b) (pos a))
 needle-case : {e f : Entry} {c d : Channel} → Case e c → Case f d → SmallNeedle (needleOf c d)
 needle-case (refused report r c) w = omega (arith, reason-small (reading.refused-only Purpose.Density report r c))
 needle-case (no-record u) w = omega (arith, unread-small u)
-needle-case (accepted report p d k c w) (refused report′ r c′) = omega (arith, reason-small (reading.refused-only Purpose.Density report′ r c′))
-needle-case (accepted report p d k c w) (no-record u) = omega (arith, unread-small u)
-needle-case (accepted report p d k c w) (accepted report′ q d′ k′ c′ w′) =
+needle-case (accepted report p d k m c w) (refused report′ r c′) = omega (arith, reason-small (reading.refused-only Purpose.Density report′ r c′))
+needle-case (accepted report p d k m c w) (no-record u) = omega (arith, unread-small u)
+needle-case (accepted report p d k m c w) (accepted report′ q d′ k′ m′ c′ w′) =
     let s = known-is-on-table (p .sigma) (p .tau) (p .pi) w in
     let t = known-is-on-table (q .sigma) (q .tau) (q .pi) w′ in
     let h : common p q ≤ 100_000 = omega (arith, natural (s .pressure) .most, natural (t .pressure) .most) in

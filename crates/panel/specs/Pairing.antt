@@ -7,6 +7,7 @@ use Rattle.refusals.specs.Number.{numberOf}
 use Rattle.sea.specs.declared.Sounding.{Sounding}
 use Rattle.sea.specs.Water.{soundingOf}
 use Rattle.readings.specs.declared.Point.{Point}
+use Rattle.readings.specs.declared.Remarks.{Remarks}
 use Rattle.readings.specs.declared.Checked.{Checked}
 use Rattle.channels.specs.declared.Channel.{Channel}
 use Rattle.channels.specs.declared.Needle.{Needle}
@@ -15,7 +16,7 @@ use Rattle.panel.specs.declared.Side.{Side}
 
 -- the pressure of what was put on the grid; a refused one has none, and 0 is never the greater
 abbrev pub pressureOf : Checked → ℤ
-pressureOf (Checked.Taken p) = p .pi
+pressureOf (Checked.Taken p m) = p .pi
 pressureOf (Checked.Refused r) = pos 0
 
 -- the greater of two
@@ -23,19 +24,19 @@ unfoldable pub commonOf : Checked → Checked → ℤ
 commonOf a b = cond (ltZ (pressureOf a) (pressureOf b)) (pressureOf b) (pressureOf a)
 
 -- a side: its channel, and its density under the common pressure
-abbrev pub sideOf : Point → Sounding → Side
-sideOf p (Sounding.Known d k u) = record { channel = Channel.Accepted p d k; under = u }
-sideOf p (Sounding.Refused r) = record { channel = Channel.Refused r; under = 0 }
+abbrev pub sideOf : Point → Remarks → Sounding → Side
+sideOf p m (Sounding.Known d k u) = record { channel = Channel.Accepted p d k m; under = u }
+sideOf p m (Sounding.Refused r) = record { channel = Channel.Refused r; under = 0 }
 
 unfoldable pub besideOf : Checked → Checked → Side
-besideOf (Checked.Taken p) other = sideOf p (soundingOf (p .sigma) (p .tau) (p .pi) (commonOf (Checked.Taken p) other))
+besideOf (Checked.Taken p m) other = sideOf p m (soundingOf (p .sigma) (p .tau) (p .pi) (commonOf (Checked.Taken p m) other))
 besideOf (Checked.Refused r) other = record { channel = Channel.Refused r; under = 0 }
 
 -- the needle between two sides
 abbrev pub needleFrom : Channel → Channel → ℕ → ℕ → Needle
-needleFrom (Channel.Refused r) c l m = Needle.Refused (100 + numberOf r)
-needleFrom (Channel.Accepted p d k) (Channel.Refused r) l m = Needle.Refused (200 + numberOf r)
-needleFrom (Channel.Accepted p d k) (Channel.Accepted q c j) l m = Needle.Value (pos m -ℤ pos l)
+needleFrom (Channel.Refused r) c x y = Needle.Refused (100 + numberOf r)
+needleFrom (Channel.Accepted p d k m) (Channel.Refused r) x y = Needle.Refused (200 + numberOf r)
+needleFrom (Channel.Accepted p d k m) (Channel.Accepted q c j n) x y = Needle.Value (pos y -ℤ pos x)
 
 abbrev pub needleBetween : Side → Side → Needle
 needleBetween l r = needleFrom (l .channel) (r .channel) (l .under) (r .under)

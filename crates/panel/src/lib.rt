@@ -8,6 +8,7 @@ use channels::Needle;
 use readings::Checked;
 use readings::Entry;
 use readings::Point;
+use readings::Remarks;
 use sea::Sounding;
 
 // A channel's answer, and the density of its water under the pressure that it has in common with the other one: what the needle is made of.
@@ -16,14 +17,14 @@ pub struct Side {
     pub under: u32,
 }
 
-// What becomes of what stands in a channel: its grid numbers, or its refusal. A check's answer is told apart at once and not handed on as it is: a
+// What becomes of what stands in a channel: its grid numbers and remarks, or its refusal. A check's answer is told apart at once and not handed on as it is: a
 // missing probe's then needs no room in memory.
 pub fn entered(entry: Entry) -> Checked
     ensures { λ r. ⌜ r ≡ entered entry ⌝ }
 {
     match entry {
         Entry::Reading(report) => match readings::check(report) {
-            Checked::Taken(at) => Checked::Taken(at),
+            Checked::Taken(at, remarks) => Checked::Taken(at, remarks),
             Checked::Refused(why) => Checked::Refused(why),
         },
         Entry::Refused(why) => Checked::Refused(why.refusal()),
@@ -35,7 +36,7 @@ fn pressure(c: Checked) -> i64
     ensures { λ r. ⌜ r ≡ pressureOf c ⌝ }
 {
     match c {
-        Checked::Taken(at) => at.pi,
+        Checked::Taken(at, _) => at.pi,
         Checked::Refused(_) => 0,
     }
 }
@@ -53,8 +54,8 @@ fn common(a: Checked, b: Checked) -> i64
 }
 
 // A side from what its water is.
-fn sided(at: Point, found: Sounding) -> Side
-    ensures { λ r. ⌜ r ≡ sideOf at found ⌝ }
+fn sided(at: Point, remarks: Remarks, found: Sounding) -> Side
+    ensures { λ r. ⌜ r ≡ sideOf at remarks found ⌝ }
 {
     match found {
         Sounding::Known {
@@ -62,7 +63,12 @@ fn sided(at: Point, found: Sounding) -> Side
             bulk,
             under,
         } => Side {
-            channel: Channel::Accepted { at, density, bulk },
+            channel: Channel::Accepted {
+                at,
+                density,
+                bulk,
+                remarks,
+            },
             under,
         },
         Sounding::Refused(why) => Side {
@@ -77,8 +83,9 @@ pub fn beside(one: Checked, other: Checked) -> Side
     ensures { λ r. ⌜ r ≡ besideOf one other ⌝ }
 {
     match one {
-        Checked::Taken(at) => sided(
+        Checked::Taken(at, remarks) => sided(
             at,
+            remarks,
             sea::sounding_at(at.sigma, at.tau, at.pi, common(one, other)),
         ),
         Checked::Refused(why) => Side {
@@ -100,12 +107,14 @@ pub fn needle(left: Side, right: Side) -> Needle
             at: _,
             density: _,
             bulk: _,
+            remarks: _,
         } => match r {
             Channel::Refused(why) => Needle::Refused(200 + why.number()),
             Channel::Accepted {
                 at: _,
                 density: _,
                 bulk: _,
+                remarks: _,
             } => Needle::Value(right.under as i64 - left.under as i64),
         },
     }

@@ -14,6 +14,7 @@ use Rattle.floats.specs.Grid.{AtMost, Same}
 use Rattle.readings.specs.declared.Report.{Report}
 use Rattle.readings.specs.declared.Reading.{Reading}
 use Rattle.readings.specs.declared.Point.{Point}
+use Rattle.readings.specs.declared.Remarks.{Remarks}
 use Rattle.readings.specs.declared.Entry.{Entry}
 use Rattle.readings.specs.Check.{givenOf}
 use Rattle.channels.specs.declared.Channel.{Channel}
@@ -28,34 +29,34 @@ use Rattle.pledges.specs.Pledges.{formulaUnder, formulaAt, Shows, Sides}
 use Rattle.pledges.proofs.Pledges as pledge
 
 -- ---- one call of `answer`, whose answer r is an accepted channel
-module _ (κs : Lifetimes.Lfts 0) (a : _) (r : _) (s : _) (told : answer.Learnt κs a r s) (p : Point) (d k : ℕ) (is : Channel.Accepted p d k ≡ r) where
+module _ (κs : Lifetimes.Lfts 0) (a : _) (r : _) (s : _) (told : answer.Learnt κs a r s) (p : Point) (d k : ℕ) (m : Remarks) (is : Channel.Accepted p d k m ≡ r) where
   -- 1. the density that it shows is within 0.0006 kg/m³ of the formula's, at the point that it gives
   pub shown-within : (x : Frac) → Rooted (plus (p .sigma)) x → Close d (formulaAt p x)
-  shown-within x v = pledge.shown-within (a .0) p d k x (is ∙ told) v
+  shown-within x v = pledge.shown-within (a .0) p d k m x (is ∙ told) v
 
   -- 2. the bulk modulus is above the pressure
   pub stiffer-than-pressure : plus (p .pi) < k
-  stiffer-than-pressure = pledge.stiffer-than-pressure (a .0) p d k (is ∙ told)
+  stiffer-than-pressure = pledge.stiffer-than-pressure (a .0) p d k m (is ∙ told)
 
   -- what it shows, of the floats that it was given
   pub shows : (report : Report) (x : Reading) → a .0 ≡ Entry.Reading report → givenOf report ≡ some x → Shows x d
-  shows report x e g = record { report = report; reading-is = g; point = p; bulk = k; channel-is = is ∙ told ∙ ap channelOf e }
+  shows report x e g = record { report = report; reading-is = g; point = p; bulk = k; remarks = m; channel-is = is ∙ told ∙ ap channelOf e }
 
 -- ---- one call of `paired`, whose answer has a needle of z
 module _
     (κs : Lifetimes.Lfts 0) (a : _) (r : _) (s : _) (told : paired.Learnt κs a r s)
-    (p q : Point) (d k d′ k′ : ℕ) (l-is : Channel.Accepted p d k ≡ r .left) (r-is : Channel.Accepted q d′ k′ ≡ r .right) (z : ℤ) (n-is : Needle.Value z ≡ r .needle) where
-  left-is : Channel.Accepted p d k ≡ channelOf (a .0)
+    (p q : Point) (d k d′ k′ : ℕ) (m n : Remarks) (l-is : Channel.Accepted p d k m ≡ r .left) (r-is : Channel.Accepted q d′ k′ n ≡ r .right) (z : ℤ) (n-is : Needle.Value z ≡ r .needle) where
+  left-is : Channel.Accepted p d k m ≡ channelOf (a .0)
   unfolding comparisonOf
-  left-is = l-is ∙ ap (λ (m : Comparison). m .left) told
+  left-is = l-is ∙ ap (λ (c : Comparison). c .left) told
 
-  right-is : Channel.Accepted q d′ k′ ≡ channelOf (a .1 .0)
+  right-is : Channel.Accepted q d′ k′ n ≡ channelOf (a .1 .0)
   unfolding comparisonOf
-  right-is = r-is ∙ ap (λ (m : Comparison). m .right) told
+  right-is = r-is ∙ ap (λ (c : Comparison). c .right) told
 
   needle-is : Needle.Value z ≡ needleOf (channelOf (a .0)) (channelOf (a .1 .0))
   unfolding comparisonOf
-  needle-is = n-is ∙ ap (λ (m : Comparison). m .needle) told
+  needle-is = n-is ∙ ap (λ (c : Comparison). c .needle) told
 
   -- what the formula says, with a fraction in place of each root
   module _ (x y : Frac) (v : Rooted (plus (p .sigma)) x) (w : Rooted (plus (q .sigma)) y) where
@@ -66,8 +67,10 @@ module _
           right = a .1 .0;
           left-density = d;
           left-bulk = k;
+          left-remarks = m;
           right-density = d′;
           right-bulk = k′;
+          right-remarks = n;
           left-is = left-is;
           right-is = right-is;
           left-root = v;
@@ -89,27 +92,27 @@ module _
 
   -- the same water at any two depths has a needle of 0
   pub same-water : p .sigma ≡ q .sigma → p .tau ≡ q .tau → z ≡ pos 0
-  same-water s t = panel.taken (needle-is ∙ panel.same-water (channelOf (a .0)) (channelOf (a .1 .0)) p q d k d′ k′ (sym left-is) (sym right-is) s t)
+  same-water s t = panel.taken (needle-is ∙ panel.same-water (channelOf (a .0)) (channelOf (a .1 .0)) p q d k d′ k′ m n (sym left-is) (sym right-is) s t)
 
   -- at equal pressures the needle is the difference of the densities beside it
   pub level : p .pi ≡ q .pi → z ≡ pos d′ -ℤ pos d
-  level e = panel.taken (needle-is ∙ panel.level (a .0) (a .1 .0) p q d k d′ k′ (sym left-is) (sym right-is) e)
+  level e = panel.taken (needle-is ∙ panel.level (a .0) (a .1 .0) p q d k d′ k′ m n (sym left-is) (sym right-is) e)
 
   -- the same two the other way round: the sign turns
   pub swapped : (κs′ : Lifetimes.Lfts 0) (r′ : _) (s′ : _) → paired.Learnt κs′ (a .1 .0, (a .0, a .1 .1)) r′ s′ → r′ .needle ≡ Needle.Value (negℤ z)
   unfolding comparisonOf
-  swapped κs′ r′ s′ told′ = ap (λ (m : Comparison). m .needle) told′ ∙ panel.swapped (channelOf (a .0)) (channelOf (a .1 .0)) z (sym needle-is)
+  swapped κs′ r′ s′ told′ = ap (λ (c : Comparison). c .needle) told′ ∙ panel.swapped (channelOf (a .0)) (channelOf (a .1 .0)) z (sym needle-is)
 
 -- ---- two calls of `answer` on readings x and y
 module _
     (κs κs′ : Lifetimes.Lfts 0) (a b : _) (l r : _) (s t : _) (first : answer.Learnt κs a l s) (second : answer.Learnt κs′ b r t)
-    (p q : Point) (d k d′ k′ : ℕ) (l-is : Channel.Accepted p d k ≡ l) (r-is : Channel.Accepted q d′ k′ ≡ r)
+    (p q : Point) (d k d′ k′ : ℕ) (m n : Remarks) (l-is : Channel.Accepted p d k m ≡ l) (r-is : Channel.Accepted q d′ k′ n ≡ r)
     (f g : Report) (x y : Reading) (a-is : a .0 ≡ Entry.Reading f) (b-is : b .0 ≡ Entry.Reading g)
     (x-is : givenOf f ≡ some x) (y-is : givenOf g ≡ some y) where
   -- 3. at the same temperature and pressure saltier water never shows lighter
   pub saltier : Same (x .temperature) (y .temperature) → Same (x .pressure) (y .pressure) → AtMost (x .salinity) (y .salinity) → d ≤ d′
-  saltier = pledge.saltier x y d d′ (shows κs a l s first p d k l-is f x a-is x-is) (shows κs′ b r t second q d′ k′ r-is g y b-is y-is)
+  saltier = pledge.saltier x y d d′ (shows κs a l s first p d k m l-is f x a-is x-is) (shows κs′ b r t second q d′ k′ n r-is g y b-is y-is)
 
   -- 4. at the same salinity and temperature deeper water never shows lighter
   pub deeper : Same (x .salinity) (y .salinity) → Same (x .temperature) (y .temperature) → AtMost (x .pressure) (y .pressure) → d ≤ d′
-  deeper = pledge.deeper x y d d′ (shows κs a l s first p d k l-is f x a-is x-is) (shows κs′ b r t second q d′ k′ r-is g y b-is y-is)
+  deeper = pledge.deeper x y d d′ (shows κs a l s first p d k m l-is f x a-is x-is) (shows κs′ b r t second q d′ k′ n r-is g y b-is y-is)

@@ -12,7 +12,7 @@ use Rattle.floats.specs.Bytes.{floatOf}
 use Rattle.readings.specs.declared.Point.{Point}
 use Rattle.readings.specs.declared.Report.{Report}
 use Rattle.readings.specs.Check.{deepOf, surfaceOf}
-use Rattle.panel.proofs.Samples.{fresh, salt, deep, fresh-is, salt-is, deep-is, needle-is, deep-needle-is, turned-needle-is}
+use Rattle.panel.proofs.Samples.{exact, fresh, salt, deep, fresh-is, salt-is, deep-is, needle-is, deep-needle-is, turned-needle-is}
 use Rattle.promises.proofs.Grid.{rooted}
 use Rattle.pledges.specs.Pledges.{Shows, Sides}
 use Rattle.pledges.proofs.Pledges.{saltier, deeper}
@@ -35,6 +35,7 @@ shows-salt =
       reading-is = refl;
       point = salt-at;
       bulk = 2_218_593;
+      remarks = exact;
       channel-is = sym salt-is;
     }
 
@@ -45,8 +46,10 @@ sides-of-both =
       right = salt;
       left-density = 999_967;
       left-bulk = 2_033_780;
+      left-remarks = exact;
       right-density = 1_027_675;
       right-bulk = 2_218_593;
+      right-remarks = exact;
       left-is = sym fresh-is;
       right-is = sym salt-is;
       left-root = rooted 0;
@@ -68,7 +71,7 @@ abbrev pub f1000 : Float
 f1000 = floatOf 0x00 0x00 0x7A 0x44
 
 unfoldable pub shows-fresh : Shows (surfaceOf f0 f5) 999_967
-shows-fresh = record { report = Report.Surface f0 f5; reading-is = refl; point = fresh-at; bulk = 2_033_780; channel-is = sym fresh-is }
+shows-fresh = record { report = Report.Surface f0 f5; reading-is = refl; point = fresh-at; bulk = 2_033_780; remarks = exact; channel-is = sym fresh-is }
 
 unfoldable pub shows-deep : Shows (deepOf f35 f5 f1000) 1_069_489
 shows-deep =
@@ -77,6 +80,7 @@ shows-deep =
       reading-is = refl;
       point = deep-at;
       bulk = 2_557_749;
+      remarks = exact;
       channel-is = sym deep-is;
     }
 
@@ -88,8 +92,10 @@ sides-at-depths =
       right = deep;
       left-density = 999_967;
       left-bulk = 2_033_780;
+      left-remarks = exact;
       right-density = 1_069_489;
       right-bulk = 2_557_749;
+      right-remarks = exact;
       left-is = sym fresh-is;
       right-is = sym deep-is;
       left-root = rooted 0;
@@ -104,8 +110,10 @@ sides-turned =
       right = fresh;
       left-density = 1_069_489;
       left-bulk = 2_557_749;
+      left-remarks = exact;
       right-density = 999_967;
       right-bulk = 2_033_780;
+      right-remarks = exact;
       left-is = sym deep-is;
       right-is = sym fresh-is;
       left-root = rooted 35_000;

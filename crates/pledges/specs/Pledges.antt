@@ -11,6 +11,7 @@ use Rattle.floats.specs.Grid.{AtMost, Same}
 use Rattle.readings.specs.declared.Report.{Report}
 use Rattle.readings.specs.declared.Reading.{Reading}
 use Rattle.readings.specs.declared.Point.{Point}
+use Rattle.readings.specs.declared.Remarks.{Remarks}
 use Rattle.readings.specs.Check.{givenOf}
 use Rattle.readings.specs.declared.Entry.{Entry}
 use Rattle.channels.specs.declared.Channel.{Channel}
@@ -28,11 +29,11 @@ formulaAt p x = formulaUnder (plus (p .pi)) p x
 
 -- 1. a density that the panel shows is within 0.0006 kg/m³ of the formula's
 abbrev pub AnswerWithin : Type 0
-AnswerWithin = (e : Entry) (p : Point) (d k : ℕ) (x : Frac) → Channel.Accepted p d k ≡ channelOf e → Rooted (plus (p .sigma)) x → Close d (formulaAt p x)
+AnswerWithin = (e : Entry) (p : Point) (d k : ℕ) (m : Remarks) (x : Frac) → Channel.Accepted p d k m ≡ channelOf e → Rooted (plus (p .sigma)) x → Close d (formulaAt p x)
 
 -- 2. a bulk modulus that it gives is above the pressure
 abbrev pub AnswerStiffer : Type 0
-AnswerStiffer = (e : Entry) (p : Point) (d k : ℕ) → Channel.Accepted p d k ≡ channelOf e → plus (p .pi) < k
+AnswerStiffer = (e : Entry) (p : Point) (d k : ℕ) (m : Remarks) → Channel.Accepted p d k m ≡ channelOf e → plus (p .pi) < k
 
 -- the panel shows the density d for a reading, whichever kind of report it came in
 pub record Shows (x : Reading) (d : ℕ) : Type 0 where
@@ -40,7 +41,8 @@ pub record Shows (x : Reading) (d : ℕ) : Type 0 where
   pub reading-is : givenOf report ≡ some x
   pub point : Point
   pub bulk : ℕ
-  pub channel-is : Channel.Accepted point d bulk ≡ channelOf (Entry.Reading report)
+  pub remarks : Remarks
+  pub channel-is : Channel.Accepted point d bulk remarks ≡ channelOf (Entry.Reading report)
 
 -- 3. at the same temperature and pressure saltier water never shows lighter: of the probes' own floats, before any rounding
 abbrev pub SaltierReading : Type 0
@@ -60,10 +62,12 @@ pub record Sides (p q : Point) (x y : Frac) (z : ℤ) : Type 0 where
   pub right : Entry
   pub left-density : ℕ
   pub left-bulk : ℕ
+  pub left-remarks : Remarks
   pub right-density : ℕ
   pub right-bulk : ℕ
-  pub left-is : Channel.Accepted p left-density left-bulk ≡ channelOf left
-  pub right-is : Channel.Accepted q right-density right-bulk ≡ channelOf right
+  pub right-remarks : Remarks
+  pub left-is : Channel.Accepted p left-density left-bulk left-remarks ≡ channelOf left
+  pub right-is : Channel.Accepted q right-density right-bulk right-remarks ≡ channelOf right
   pub left-root : Rooted (plus (p .sigma)) x
   pub right-root : Rooted (plus (q .sigma)) y
   pub needle-is : Needle.Value z ≡ needleOf (channelOf left) (channelOf right)

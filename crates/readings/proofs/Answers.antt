@@ -6,18 +6,22 @@ use mathlib.Core.Path.{_≡_, refl, sym, _∙_, subst, ap₂}
 use mathlib.Core.Option.{some}
 use mathlib.Core.Bool.{Bool, true, false, cond}
 use lib.Dec.{T}
+use lib.IntN.{pos}
 use lib.Signed.{_≤ℤ_}
 use lib.Ieee.{Float}
 use Rattle.refusals.specs.declared.Refusal.{Refusal}
-use Rattle.floats.specs.Grid.{Range, inside, gridNo, placeOf}
+use Rattle.floats.specs.Grid.{Range, inside, gridNo, remarkOf, placeOf}
 use Rattle.floats.specs.declared.Place.{Place}
+use Rattle.floats.specs.declared.Remark.the-variants.{On}
 use Rattle.floats.proofs.Order.{grid-within}
+use Rattle.floats.proofs.Remarks.{zero-on}
 use Rattle.readings.specs.Check.{salinities, temperatures, pressures, deepOf, surfaceOf, givenOf, allFinite, firstOutside, placedFor, inOrder, checkedFor}
-use Rattle.readings.proofs.Reasons.{Lying, Gridded, Usable, Reason, missing, not-finite, salinity, temperature, pressure, Answered, taken, refused}
+use Rattle.readings.proofs.Reasons.{Lying, Gridded, Remarked, Usable, Reason, missing, not-finite, salinity, temperature, pressure, Answered, taken, refused}
 use Rattle.readings.specs.declared.Purpose.{Purpose}
 use Rattle.readings.specs.declared.Report.{Report}
 use Rattle.readings.specs.declared.Reading.{Reading}
 use Rattle.readings.specs.declared.Point.{Point}
+use Rattle.readings.specs.declared.Remarks.{Remarks}
 use Rattle.readings.specs.declared.Finite.{Finite}
 use Rattle.readings.specs.declared.Checked.{Checked}
 
@@ -25,7 +29,7 @@ within : (q : Range) (x : Float) → inside q x ≡ true → (q .low ≤ℤ grid
 within q x e = grid-within q x (subst T (sym e) tt)
 
 abbrev placed : Bool → Range → Float → Place
-placed b q x = cond b (Place.At (gridNo (q .steps) x)) Place.Outside
+placed b q x = cond b (Place.At (gridNo (q .steps) x) (remarkOf (q .steps) x)) Place.Outside
 
 module _ (k : Purpose) where
   by-places : (report : Report) (r : Reading) → Usable report r → (a b c : Bool) → inside salinities (r .salinity) ≡ a
@@ -38,7 +42,8 @@ module _ (k : Purpose) where
       let σ = within salinities (r .salinity) s in
       let τ = within (temperatures k) (r .temperature) t in
       let π = within pressures (r .pressure) p in
-      taken r w (record { sigma-is = refl; tau-is = refl; pi-is = refl }) (record { sigma-low = σ .0; sigma-high = σ .1; tau-low = τ .0; tau-high = τ .1; pi-low = π .0; pi-high = π .1 })
+      taken r w (record { sigma-is = refl; tau-is = refl; pi-is = refl }) (record { of-salinity = refl; of-temperature = refl; of-pressure = refl })
+      (record { sigma-low = σ .0; sigma-high = σ .1; tau-low = τ .0; tau-high = τ .1; pi-low = π .0; pi-high = π .1 })
 
   with-reading : (report : Report) (r : Reading) → givenOf report ≡ some r → (f : Finite) → allFinite report ≡ f
       → Answered k report (inOrder k (some r) f)
@@ -54,21 +59,28 @@ module _ (k : Purpose) where
   answered (Report.Surface s t) = with-reading (Report.Surface s t) (surfaceOf s t) refl (allFinite (Report.Surface s t)) refl
   answered Report.Missing = refused missing
 
-  pub taken-on-grid : (report : Report) (p : Point) → checkedFor k report ≡ Checked.Taken p → Lying k p
-  taken-on-grid report p e = go (subst (Answered k report) e (answered report))
+  pub taken-on-grid : (report : Report) (p : Point) (m : Remarks) → checkedFor k report ≡ Checked.Taken p m → Lying k p
+  taken-on-grid report p m e = go (subst (Answered k report) e (answered report))
     where
-      go : Answered k report (Checked.Taken p) → Lying k p
-      go (taken r w n g) = g
+      go : Answered k report (Checked.Taken p m) → Lying k p
+      go (taken r w n o g) = g
 
-  -- its numbers are those of its reading's floats
-  pub taken-gridded : (report : Report) (r : Reading) (p : Point) → givenOf report ≡ some r → checkedFor k report ≡ Checked.Taken p → Gridded r p
-  taken-gridded report r p h e = go (subst (Answered k report) e (answered report))
-    where
-      one : (q : Reading) → givenOf report ≡ some q → q ≡ r
-      one q g = let z : some q ≡ some r = sym g ∙ h in cc
+  -- its numbers and its remarks are those of its reading's floats
+  module _ (report : Report) (r : Reading) (p : Point) (m : Remarks) (h : givenOf report ≡ some r) (e : checkedFor k report ≡ Checked.Taken p m) where
+    one : (q : Reading) → givenOf report ≡ some q → q ≡ r
+    one q g = let z : some q ≡ some r = sym g ∙ h in cc
 
-      go : Answered k report (Checked.Taken p) → Gridded r p
-      go (taken q w n g) = subst (λ (x : Reading). Gridded x p) (one q (w .given)) n
+    pub taken-gridded : Gridded r p
+    taken-gridded = go (subst (Answered k report) e (answered report))
+      where
+        go : Answered k report (Checked.Taken p m) → Gridded r p
+        go (taken q w n o g) = subst (λ (x : Reading). Gridded x p) (one q (w .given)) n
+
+    pub taken-remarked : Remarked r m
+    taken-remarked = go (subst (Answered k report) e (answered report))
+      where
+        go : Answered k report (Checked.Taken p m) → Remarked r m
+        go (taken q w n o g) = subst (λ (x : Reading). Remarked x m) (one q (w .given)) o
 
   pub refused-only : (report : Report) (x : Refusal) → checkedFor k report ≡ Checked.Refused x → Reason k report x
   refused-only report x e = go (subst (Answered k report) e (answered report))
@@ -95,13 +107,17 @@ module _ (k : Purpose) where
   reason-refuses {report} (pressure r w s t p) = usable report r w ∙ places r true true false s t p
 
   -- ---- a reading that is taken has its salinity inside the range
-  never : {x : Refusal} {p : Point} → Checked.Refused x ≡ Checked.Taken p → ⊥
+  never : {x : Refusal} {p : Point} {m : Remarks} → Checked.Refused x ≡ Checked.Taken p m → ⊥
   never e = let z : _≡_ {A = ℕ} 0 1 = cc in omega arith
 
-  pub taken-inside : (report : Report) (r : Reading) (p : Point) → givenOf report ≡ some r → checkedFor k report ≡ Checked.Taken p → T (inside salinities (r .salinity))
-  taken-inside report r p g e = go (inside salinities (r .salinity)) (allFinite report) refl refl
+  pub taken-inside : (report : Report) (r : Reading) (p : Point) (m : Remarks) → givenOf report ≡ some r → checkedFor k report ≡ Checked.Taken p m → T (inside salinities (r .salinity))
+  taken-inside report r p m g e = go (inside salinities (r .salinity)) (allFinite report) refl refl
     where
       go : (b : Bool) (f : Finite) → inside salinities (r .salinity) ≡ b → allFinite report ≡ f → T b
       go true f s h = tt
       go false Finite.No s h = absurd (never (sym (reason-refuses (not-finite r g h)) ∙ e))
       go false Finite.Yes s h = absurd (never (sym (reason-refuses (salinity r (record { given = g; finite = h }) s)) ∙ e))
+
+  -- a probe at the surface has no pressure that could be off: its remark is on
+  pub surface-on : (s t : Float) (p : Point) (m : Remarks) → checkedFor k (Report.Surface s t) ≡ Checked.Taken p m → m .pressure ≡ On
+  surface-on s t p m e = taken-remarked (Report.Surface s t) (surfaceOf s t) p m refl e .of-pressure ∙ zero-on 100 false (pos 0) .1

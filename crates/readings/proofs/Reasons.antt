@@ -5,12 +5,13 @@ use mathlib.Core.Bool.{true, false}
 use lib.IntN.{pos}
 use lib.Signed.{_≤ℤ_}
 use Rattle.refusals.specs.declared.Refusal.{Refusal}
-use Rattle.floats.specs.Grid.{inside, gridNo}
+use Rattle.floats.specs.Grid.{inside, gridNo, remarkOf}
 use Rattle.readings.specs.Check.{coldest, salinities, temperatures, pressures, givenOf, allFinite}
 use Rattle.readings.specs.declared.Purpose.{Purpose}
 use Rattle.readings.specs.declared.Report.{Report}
 use Rattle.readings.specs.declared.Reading.{Reading}
 use Rattle.readings.specs.declared.Point.{Point}
+use Rattle.readings.specs.declared.Remarks.{Remarks}
 use Rattle.readings.specs.declared.Finite.{Finite}
 use Rattle.readings.specs.declared.Checked.{Checked}
 
@@ -32,6 +33,12 @@ pub record Gridded (r : Reading) (p : Point) : Type 0 where
   pub tau-is : p .tau ≡ gridNo 1000 (r .temperature)
   pub pi-is : p .pi ≡ gridNo 100 (r .pressure)
 
+-- m has the remarks of a reading's floats
+pub record Remarked (r : Reading) (m : Remarks) : Type 0 where
+  pub of-salinity : m .salinity ≡ remarkOf 1000 (r .salinity)
+  pub of-temperature : m .temperature ≡ remarkOf 1000 (r .temperature)
+  pub of-pressure : m .pressure ≡ remarkOf 100 (r .pressure)
+
 -- the report has the reading r, and its floats are finite
 pub record Usable (report : Report) (r : Reading) : Type 0 where
   pub given : givenOf report ≡ some r
@@ -49,5 +56,5 @@ pub data Reason (w : Purpose) : Report → Refusal → Type 0 where
 
 -- every answer is one of these two
 pub data Answered (w : Purpose) (report : Report) : Checked → Type 0 where
-  taken : {p : Point} (r : Reading) → Usable report r → Gridded r p → Lying w p → Answered w report (Checked.Taken p)
+  taken : {p : Point} {m : Remarks} (r : Reading) → Usable report r → Gridded r p → Remarked r m → Lying w p → Answered w report (Checked.Taken p m)
   refused : {x : Refusal} → Reason w report x → Answered w report (Checked.Refused x)

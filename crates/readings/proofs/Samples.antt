@@ -7,7 +7,9 @@ use mathlib.Core.Bool.{false}
 use lib.Ieee.{Float, fin, binary32, ofBits}
 use Rattle.whole.specs.Arith.{neg}
 use Rattle.refusals.specs.declared.Refusal.{Refusal}
-use Rattle.floats.specs.Grid.{inside, gridNo, placeOf}
+use Rattle.floats.specs.Grid.{inside, gridNo, remarkOf, placeOf}
+use Rattle.floats.specs.declared.Remark.{Remark}
+use Rattle.floats.specs.declared.Remark.the-variants.{Below, On, Above}
 use Rattle.readings.specs.Check.{surfaceOf, placedFor, checkedFor}
 use Rattle.readings.specs.declared.Purpose.{Purpose}
 use Rattle.readings.specs.declared.Report.{Report}
@@ -28,23 +30,33 @@ surface s t c = record { purpose = Purpose.Density; report = Report.Surface (ofB
 abbrev carbon : ℕ → ℕ → Checked → Sample
 carbon s t c = record { purpose = Purpose.Carbon; report = Report.Surface (ofBits binary32 s) (ofBits binary32 t); answer = c }
 
-abbrev point : ℤ → ℤ → ℤ → Checked
-point σ τ π = Checked.Taken (record { sigma = σ; tau = τ; pi = π })
+-- the grid numbers, and the remarks beside them
+abbrev point : ℤ → Remark → ℤ → Remark → ℤ → Remark → Checked
+point σ a τ b π c = Checked.Taken (record { sigma = σ; tau = τ; pi = π }) (record { salinity = a; temperature = b; pressure = c })
 
 abbrev no : Refusal → Checked
 no = Checked.Refused
 
 unfoldable pub samples : List Sample
 samples =
-    -- 0.0625 °C and -0.0625 °C
-    surface 0x420c_0000 0x3d80_0000 (point (pos 35_000) (pos 63) (pos 0))
-    ∷ surface 0x420c_0000 0xbd80_0000 (point (pos 35_000) (neg 62) (pos 0))
-    -- the least float above 0, and minus zero
-    ∷ deep 0x0000_0001 0x0000_0001 0x0000_0001 (point (pos 0) (pos 0) (pos 0))
-    ∷ deep 0x8000_0000 0x8000_0000 0x8000_0000 (point (pos 0) (pos 0) (pos 0))
+    -- 0.0625 °C and -0.0625 °C: halves, below the points that they go to
+    surface 0x420c_0000 0x3d80_0000 (point (pos 35_000) On (pos 63) Below (pos 0) On)
+    ∷ surface 0x420c_0000 0xbd80_0000 (point (pos 35_000) On (neg 62) Below (pos 0) On)
+    -- the least float above 0, minus zero, and the greatest float below 0
+    ∷ deep 0x0000_0001 0x0000_0001 0x0000_0001 (point (pos 0) Above (pos 0) Above (pos 0) Above)
+    ∷ deep 0x8000_0000 0x8000_0000 0x8000_0000 (point (pos 0) On (pos 0) On (pos 0) On)
+    ∷ surface 0x8000_0000 0x8000_0001 (point (pos 0) On (pos 0) Below (pos 0) On)
+    -- 5.1 and -0.1 as the nearest floats have them, and the floats on the other side of these points
+    ∷ surface 0x40a3_3333 0xbdcc_cccd (point (pos 5_100) Below (neg 100) Below (pos 0) On)
+    ∷ surface 0x40a3_3334 0xbdcc_cccc (point (pos 5_100) Above (neg 100) Above (pos 0) On)
+    -- within 2⁻²⁴ of 0.001 and of -0.001, and not on them
+    ∷ surface 0x3a83_126f 0xba83_126f (point (pos 1) Above (neg 1) Below (pos 0) On)
+    -- 0.125 bar, a half, and the float before it; each float has its own remark
+    ∷ deep 0x3a83_126e 0x3f00_0000 0x3e00_0000 (point (pos 1) Below (pos 500) On (pos 13) Below)
+    ∷ deep 0x3a83_126e 0x3f00_0000 0x3dff_ffff (point (pos 1) Below (pos 500) On (pos 12) Above)
     -- the ends
-    ∷ deep 0x4228_0000 0x4220_0000 0x447a_0000 (point (pos 42_000) (pos 40_000) (pos 100_000))
-    ∷ deep 0x0000_0000 0xc000_0000 0x0000_0000 (point (pos 0) (neg 2_000) (pos 0))
+    ∷ deep 0x4228_0000 0x4220_0000 0x447a_0000 (point (pos 42_000) On (pos 40_000) On (pos 100_000) On)
+    ∷ deep 0x0000_0000 0xc000_0000 0x0000_0000 (point (pos 0) On (neg 2_000) On (pos 0) On)
     -- the next floats past them, and 42.0001
     ∷ deep 0x4228_0001 0x4220_0000 0x447a_0000 (no Refusal.Salinity)
     ∷ deep 0x4228_001a 0x4220_0000 0x447a_0000 (no Refusal.Salinity)
@@ -60,16 +72,16 @@ samples =
     ∷ deep 0x4228_0000 0x4220_0001 0x447a_0001 (no Refusal.Temperature)
     ∷ record { purpose = Purpose.Density; report = Report.Missing; answer = no Refusal.Missing }
     -- for carbon dioxide: 0 °C and the next float below it, 40 °C and the next above it, 42.0001, and a missing one
-    ∷ carbon 0x420c_0000 0x0000_0000 (point (pos 35_000) (pos 0) (pos 0))
+    ∷ carbon 0x420c_0000 0x0000_0000 (point (pos 35_000) On (pos 0) On (pos 0) On)
     ∷ carbon 0x420c_0000 0x8000_0001 (no Refusal.Temperature)
-    ∷ carbon 0x4228_0000 0x4220_0000 (point (pos 42_000) (pos 40_000) (pos 0))
+    ∷ carbon 0x4228_0000 0x4220_0000 (point (pos 42_000) On (pos 40_000) On (pos 0) On)
     ∷ carbon 0x4228_0000 0x4220_0001 (no Refusal.Temperature)
     ∷ carbon 0x4228_001a 0x8000_0001 (no Refusal.Salinity)
     ∷ record { purpose = Purpose.Carbon; report = Report.Missing; answer = no Refusal.Missing }
     ∷ []
 
 pub samples-hold : map (λ (s : Sample). checkedFor (s .purpose) (s .report)) samples ≡ map (λ (s : Sample). s .answer) samples
-unfolding samples checkedFor placedFor placeOf inside gridNo ofBits
+unfolding samples checkedFor placedFor placeOf inside gridNo remarkOf ofBits
 samples-hold = refl
 
 -- at the surface the pressure is 0 itself, whatever the other floats are

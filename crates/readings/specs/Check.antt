@@ -31,7 +31,7 @@ pressures = range (pos 0) (pos 100_000) 100
 abbrev pub deepOf : Float → Float → Float → Reading
 deepOf s t p = record { salinity = s; temperature = t; pressure = p }
 
--- at the surface the pressure is taken as 0
+-- at the surface the pressure is taken as 0, which is on its grid point
 abbrev pub surfaceOf : Float → Float → Reading
 surfaceOf s t = deepOf s t (fin false 0 (pos 0))
 
@@ -58,9 +58,10 @@ finiteOf r = yesNo (finite (r .salinity) && (finite (r .temperature) && finite (
 -- 3, 4, 5: salinity, temperature, pressure outside its range, in this order
 abbrev pub firstOutside : Place → Place → Place → Checked
 firstOutside Place.Outside t p = Checked.Refused Refusal.Salinity
-firstOutside (Place.At σ) Place.Outside p = Checked.Refused Refusal.Temperature
-firstOutside (Place.At σ) (Place.At τ) Place.Outside = Checked.Refused Refusal.Pressure
-firstOutside (Place.At σ) (Place.At τ) (Place.At π) = Checked.Taken (record { sigma = σ; tau = τ; pi = π })
+firstOutside (Place.At σ a) Place.Outside p = Checked.Refused Refusal.Temperature
+firstOutside (Place.At σ a) (Place.At τ b) Place.Outside = Checked.Refused Refusal.Pressure
+firstOutside (Place.At σ a) (Place.At τ b) (Place.At π c) =
+    Checked.Taken (record { sigma = σ; tau = τ; pi = π }) (record { salinity = a; temperature = b; pressure = c })
 
 -- where the reading's floats stand
 unfoldable pub placedFor : Purpose → Reading → Checked
@@ -73,7 +74,7 @@ inOrder w none f = Checked.Refused Refusal.Missing
 inOrder w (some r) Finite.No = Checked.Refused Refusal.NotFinite
 inOrder w (some r) Finite.Yes = placedFor w r
 
--- what becomes of a report: the first refusal that applies, or the grid numbers
+-- what becomes of a report: the first refusal that applies, or the grid numbers and their remarks
 unfoldable pub checkedFor : Purpose → Report → Checked
 checkedFor w report = inOrder w (givenOf report) (allFinite report)
 

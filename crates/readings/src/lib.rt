@@ -1,10 +1,11 @@
-// From a probe's report to the grid numbers of its reading, or to the first refusal that applies.
+// From a probe's report to the grid numbers of its reading and their remarks, or to the first refusal that applies.
 ghost use mathlib.Core.Path.{_≡_};
 ghost use mathlib.Core.Option.{some};
 ghost use Rattle.readings.specs.declared.Purpose.{Purpose};
 ghost use Rattle.readings.specs.declared.Report.{Report};
 ghost use Rattle.readings.specs.Check.{coldest, surfaceOf, finiteOf, placedFor, inOrder, checkedFor, checkedOf};
 use floats::Place;
+use floats::Remark;
 use floats::grid;
 use refusals::Refusal;
 use refusals::Unread;
@@ -36,8 +37,15 @@ pub struct Point {
     pub pi: i64,
 }
 
+// On which side of its grid point each float lies.
+pub struct Remarks {
+    pub salinity: Remark,
+    pub temperature: Remark,
+    pub pressure: Remark,
+}
+
 pub enum Checked {
-    Taken(Point),
+    Taken(Point, Remarks),
     Refused(Refusal),
 }
 
@@ -114,7 +122,7 @@ impl Reading {
     fn placed(self) -> Checked
         ensures { λ r. ⌜ r ≡ placedFor Purpose.Density self ⌝ }
     {
-        let Place::At(sigma) = grid::place(
+        let Place::At(sigma, salinity) = grid::place(
             self.salinity,
             Reading::SALINITY_LOW,
             Reading::SALINITY_HIGH,
@@ -122,7 +130,7 @@ impl Reading {
         ) else {
             return Checked::Refused(Refusal::Salinity);
         };
-        let Place::At(tau) = grid::place(
+        let Place::At(tau, temperature) = grid::place(
             self.temperature,
             Reading::TEMPERATURE_LOW,
             Reading::TEMPERATURE_HIGH,
@@ -130,7 +138,7 @@ impl Reading {
         ) else {
             return Checked::Refused(Refusal::Temperature);
         };
-        let Place::At(pi) = grid::place(
+        let Place::At(pi, pressure) = grid::place(
             self.pressure,
             Reading::PRESSURE_LOW,
             Reading::PRESSURE_HIGH,
@@ -138,7 +146,12 @@ impl Reading {
         ) else {
             return Checked::Refused(Refusal::Pressure);
         };
-        Checked::Taken(Point { sigma, tau, pi })
+        let remarks = Remarks {
+            salinity,
+            temperature,
+            pressure,
+        };
+        Checked::Taken(Point { sigma, tau, pi }, remarks)
     }
 
     // Checks 2 to 5.
@@ -176,7 +189,7 @@ fn placed_at_surface(salinity: f32, temperature: f32, purpose: Purpose) -> Check
     ensures { λ r. ⌜ r ≡ placedFor purpose (surfaceOf salinity temperature) ⌝ }
 {
     let coldest = purpose.coldest();
-    let Place::At(sigma) = grid::place(
+    let Place::At(sigma, on_salinity) = grid::place(
         salinity,
         Reading::SALINITY_LOW,
         Reading::SALINITY_HIGH,
@@ -184,7 +197,7 @@ fn placed_at_surface(salinity: f32, temperature: f32, purpose: Purpose) -> Check
     ) else {
         return Checked::Refused(Refusal::Salinity);
     };
-    let Place::At(tau) = grid::place(
+    let Place::At(tau, on_temperature) = grid::place(
         temperature,
         coldest,
         Reading::TEMPERATURE_HIGH,
@@ -192,7 +205,12 @@ fn placed_at_surface(salinity: f32, temperature: f32, purpose: Purpose) -> Check
     ) else {
         return Checked::Refused(Refusal::Temperature);
     };
-    Checked::Taken(Point { sigma, tau, pi: 0 })
+    let remarks = Remarks {
+        salinity: on_salinity,
+        temperature: on_temperature,
+        pressure: Remark::On,
+    };
+    Checked::Taken(Point { sigma, tau, pi: 0 }, remarks)
 }
 
 // Checks 2 to 4 of a reading at the surface, for a purpose that reads no pressure. It is no case of `check`, which would test the pressure too.

@@ -11,11 +11,13 @@ use Rattle.sea.specs.Table.{Dw, Ds, Dr, Dss, Kw, Ks, Kr, Aw, As, Ar, Bw, Bs}
 use Rattle.sea.specs.Recipe.{rowsAt, rootAt, surface, K0, A, B, bulk, hundredths, mass, net, gain, density, shown, bulkOf, shownOf, shownAt, modulusAt}
 use Rattle.sea.specs.Water.{rangeOf, waterOf}
 use Rattle.floats.specs.Bytes.{floatOf}
-use Rattle.floats.specs.Grid.{inside, gridNo, placeOf}
+use Rattle.floats.specs.Grid.{inside, gridNo, remarkOf, placeOf}
+use Rattle.floats.specs.declared.Remark.the-variants.{Below, On, Above}
 use Rattle.readings.specs.Check.{deepOf, surfaceOf, placedFor, checkedFor}
 use Rattle.readings.specs.declared.Report.{Report}
 use Rattle.readings.specs.declared.Reading.{Reading}
 use Rattle.readings.specs.declared.Point.{Point}
+use Rattle.readings.specs.declared.Remarks.{Remarks}
 use Rattle.readings.specs.declared.Entry.{Entry}
 use Rattle.channels.specs.declared.Channel.{Channel}
 use Rattle.channels.specs.declared.Needle.{Needle}
@@ -31,8 +33,8 @@ use Rattle.sent.proofs.Sent.{rootSent, root-sent}
 abbrev deep : Reading → Report
 deep r = Report.Deep (r .salinity) (r .temperature) (r .pressure)
 
-shows : (r : Reading) (p : Point) (d k : ℕ) → channelOf (Entry.Reading (deep r)) ≡ Channel.Accepted p d k → Shows r d
-shows r p d k e = record { report = deep r; reading-is = refl; point = p; bulk = k; channel-is = sym e }
+shows : (r : Reading) (p : Point) (d k : ℕ) (m : Remarks) → channelOf (Entry.Reading (deep r)) ≡ Channel.Accepted p d k m → Shows r d
+shows r p d k m e = record { report = deep r; reading-is = refl; point = p; bulk = k; remarks = m; channel-is = sym e }
 
 -- fresh water at the surface beside salt water at 1,000 bar, and the other way round: needles of 3 or more
 pub compares-depths : Compares (surfaceOf f0 f5) (deepOf f35 f5 f1000) (pos 25_361)
@@ -63,12 +65,18 @@ warm-at = record { sigma = pos 41_569; tau = pos 39_910; pi = pos 40 }
 abbrev cool-at : Point
 cool-at = record { sigma = pos 41_547; tau = pos 39_868; pi = pos 500 }
 
-warm-is : channelOf (Entry.Reading (deep warm)) ≡ Channel.Accepted warm-at 1_022_898 2_441_268
-unfolding ofBits channelOf checkedFor placedFor placeOf inside gridNo wateredOf waterOf rangeOf scaled rowValue rootFrom rootOf Dw Ds Dr Dss Kw Ks Kr Aw As Ar Bw Bs rowsAt rootAt surface K0 A B bulk hundredths mass net gain density shown bulkOf shownOf shownAt modulusAt
+abbrev warm-off : Remarks
+warm-off = record { salinity = Above; temperature = Below; pressure = Above }
+
+abbrev cool-off : Remarks
+cool-off = record { salinity = Below; temperature = Above; pressure = On }
+
+warm-is : channelOf (Entry.Reading (deep warm)) ≡ Channel.Accepted warm-at 1_022_898 2_441_268 warm-off
+unfolding ofBits channelOf checkedFor placedFor placeOf inside gridNo remarkOf wateredOf waterOf rangeOf scaled rowValue rootFrom rootOf Dw Ds Dr Dss Kw Ks Kr Aw As Ar Bw Bs rowsAt rootAt surface K0 A B bulk hundredths mass net gain density shown bulkOf shownOf shownAt modulusAt
 warm-is = refl
 
-cool-is : channelOf (Entry.Reading (deep cool)) ≡ Channel.Accepted cool-at 1_023_092 2_442_739
-unfolding ofBits channelOf checkedFor placedFor placeOf inside gridNo wateredOf waterOf rangeOf scaled rowValue rootFrom rootOf Dw Ds Dr Dss Kw Ks Kr Aw As Ar Bw Bs rowsAt rootAt surface K0 A B bulk hundredths mass net gain density shown bulkOf shownOf shownAt modulusAt
+cool-is : channelOf (Entry.Reading (deep cool)) ≡ Channel.Accepted cool-at 1_023_092 2_442_739 cool-off
+unfolding ofBits channelOf checkedFor placedFor placeOf inside gridNo remarkOf wateredOf waterOf rangeOf scaled rowValue rootFrom rootOf Dw Ds Dr Dss Kw Ks Kr Aw As Ar Bw Bs rowsAt rootAt surface K0 A B bulk hundredths mass net gain density shown bulkOf shownOf shownAt modulusAt
 cool-is = refl
 
 -- the needle between them, 1,023,092 − 1,023,090
@@ -77,10 +85,10 @@ unfolding scaled rowValue rootFrom rootOf Dw Ds Dr Dss Kw Ks Kr Aw As Ar Bw Bs r
 two = ap₂ needleOf warm-is cool-is
 
 pub shows-warm : Shows warm 1_022_898
-shows-warm = shows warm warm-at 1_022_898 2_441_268 warm-is
+shows-warm = shows warm warm-at 1_022_898 2_441_268 warm-off warm-is
 
 pub shows-cool : Shows cool 1_023_092
-shows-cool = shows cool cool-at 1_023_092 2_442_739 cool-is
+shows-cool = shows cool cool-at 1_023_092 2_442_739 cool-off cool-is
 
 pub compares-right : Compares warm cool (pos 2)
 unfolding shows shows-warm shows-cool
@@ -109,12 +117,15 @@ needle-best-left h = h cool warm (neg 2) (rootSent cool) (rootSent warm) compare
 abbrev far : Reading
 far = deepOf (floatOf 0x7B 0xD4 0x27 0x42) (floatOf 0x81 0xD5 0x1F 0x42) (floatOf 0xEC 0x51 0x18 0x3F)
 
-far-is : channelOf (Entry.Reading (deep far)) ≡ Channel.Accepted (record { sigma = pos 41_958; tau = pos 39_958; pi = pos 60 }) 1_023_176 2_443_048
-unfolding ofBits channelOf checkedFor placedFor placeOf inside gridNo wateredOf waterOf rangeOf scaled rowValue rootFrom rootOf Dw Ds Dr Dss Kw Ks Kr Aw As Ar Bw Bs rowsAt rootAt surface K0 A B bulk hundredths mass net gain density shown bulkOf shownOf shownAt modulusAt
+abbrev far-off : Remarks
+far-off = record { salinity = Below; temperature = Above; pressure = Below }
+
+far-is : channelOf (Entry.Reading (deep far)) ≡ Channel.Accepted (record { sigma = pos 41_958; tau = pos 39_958; pi = pos 60 }) 1_023_176 2_443_048 far-off
+unfolding ofBits channelOf checkedFor placedFor placeOf inside gridNo remarkOf wateredOf waterOf rangeOf scaled rowValue rootFrom rootOf Dw Ds Dr Dss Kw Ks Kr Aw As Ar Bw Bs rowsAt rootAt surface K0 A B bulk hundredths mass net gain density shown bulkOf shownOf shownAt modulusAt
 far-is = refl
 
 pub shows-far : Shows far 1_023_176
-shows-far = shows far (record { sigma = pos 41_958; tau = pos 39_958; pi = pos 60 }) 1_023_176 2_443_048 far-is
+shows-far = shows far (record { sigma = pos 41_958; tau = pos 39_958; pi = pos 60 }) 1_023_176 2_443_048 far-off far-is
 
 pub shown-best : ¬ (SentWithinBy 13)
 unfolding ofBits rootFrom rootOf Dw Ds Dr Dss Kw Ks Kr Aw As Ar Bw Bs units rowF _≤F_ _⊕_ _⊖_ _⊗_ _⊘_ surfaceF saltedF BF bulkF pressureF compressedF densityAt

@@ -88,7 +88,7 @@ module _ {r : Reading} {d : ℕ} (s : Shows r d) where
   p = s .point
 
   table : OnTable (p .sigma) (p .tau) (p .pi)
-  table = accepted-table (Entry.Reading (s .report)) p d (s .bulk) (sym (s .channel-is))
+  table = accepted-table (Entry.Reading (s .report)) p d (s .bulk) (s .remarks) (sym (s .channel-is))
 
   σ-is : gridNo 1000 (r .salinity) ≡ pos (plus (p .sigma))
   σ-is = sym (pledge.gridded r d s .sigma-is) ∙ natural (table .salinity) .is
@@ -99,7 +99,7 @@ module _ {r : Reading} {d : ℕ} (s : Shows r d) where
   -- under the pressure of any float that has a grid number of the table
   pub beside : (f : Float) (π : ℕ) (x : Frac) → gridNo 100 f ≡ pos π → π ≤ 100_000 → RootOf (vOf r) x → Beside (plus (p .sigma)) (p .tau) π (vOf r) x (uOf r) (valueBy 1_000 f)
   beside f π x e h v =
-      let g = pledge.on-grid (Entry.Reading (s .report)) p d (s .bulk) (s .channel-is) in
+      let g = pledge.on-grid (Entry.Reading (s .report)) p d (s .bulk) (s .remarks) (s .channel-is) in
       record {
         on-grid = record { salt = g .salt; cold = g .cold; warm = g .warm; deep = h };
         salinity = subst (λ (z : ℤ). HalfStep (grid z) (vOf r)) σ-is (rounds 1000 100 (r .salinity) (omega arith) (omega arith));
@@ -116,7 +116,7 @@ module _ {r : Reading} {d : ℕ} (s : Shows r d) where
 
 pub shown-within : SentWithin
 shown-within r d x s v =
-    rw (pledge.shows (Entry.Reading (s .report)) (s .point) d (s .bulk) (s .channel-is) .density-is) (to-within (omega arith) (omega arith) (omega arith) (near-own s x v))
+    rw (pledge.shows (Entry.Reading (s .report)) (s .point) d (s .bulk) (s .remarks) (s .channel-is) .density-is) (to-within (omega arith) (omega arith) (omega arith) (near-own s x v))
 
 -- the formula's density there is a fraction: its lower number is above 0, and so K is above P
 pub sent-fraction : (r : Reading) (d : ℕ) (x : Frac) → Shows r d → RootOf (vOf r) x → 0 < sentAt r x .den
@@ -189,5 +189,5 @@ rootSent r = over (rootOf (100_000_000_000_000 * plus (numer (r .salinity)) / (1
 
 pub root-sent : {r : Reading} {d : ℕ} → Shows r d → RootOf (vOf r) (rootSent r)
 root-sent {r} {d} s =
-    let e = salty (r .salinity) (accepted-inside (s .report) r (s .point) d (s .bulk) (s .reading-is) (sym (s .channel-is))) in
+    let e = salty (r .salinity) (accepted-inside (s .report) r (s .point) d (s .bulk) (s .remarks) (s .reading-is) (sym (s .channel-is))) in
     root-there (vOf r) (omega (arith, order.denom-pos (r .salinity))) (e .0) (e .1)

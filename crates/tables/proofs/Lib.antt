@@ -1,4 +1,5 @@
 mod Rows
+pub mod Lettered
 pub mod Widths
 mod Example
 pub mod One

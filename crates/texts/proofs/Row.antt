@@ -14,7 +14,7 @@ use Rattle.texts.specs.Text.{placeText, needleText, placesText, lineOf, 
 
 place-shows : (c : Channel) → cellText (placeCell c) ≡ placeText c
 unfolding cellText
-place-shows (Accepted p d k) = refl
+place-shows (Accepted p d k m) = refl
 place-shows (Refused r) = refl
 
 needle-shows : (v : Needle) → cellText (needleCell v) ≡ needleText v

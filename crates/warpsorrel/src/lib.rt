@@ -22,7 +22,7 @@ use panel::Side;
 use roots::Search;
 use streams::Found;
 
-pub const VERSION: u32 = 2;
+pub const VERSION: u32 = 3;
 
 // The ABI's own number.
 #[no_mangle]
@@ -89,29 +89,41 @@ pub extern "C" fn warpsorrel_root(sigma: i64, trials: u32, out: &mut [u64; 4]) -
 
 // ---- floats: a report's kind is a record's, 1 deep, 2 surface (its pressure is not read), 3 missing (no float is read)
 
-// A channel: 0 or its refusal; out gets the grid numbers, the density and the bulk modulus, five noughts if refused.
+// A channel: 0 or its refusal; out gets the grid numbers, the density and the bulk modulus, and the remarks of salinity, temperature and pressure (1
+// below its grid point, 2 on it, 3 above it); eight noughts if refused.
 #[no_mangle]
 pub extern "C" fn warpsorrel_channel(
     kind: u32,
     salinity: f32,
     temperature: f32,
     pressure: f32,
-    out: &mut [i64; 5],
+    out: &mut [i64; 8],
 ) -> u32
     ensures { λ r. ⌜ r ≡ channelNumber (channelOf (entryOf kind salinity temperature pressure)) ⌝ }
     ensures { λ r. ⌜ now (out .exit) ≡ sets (now (out .entry)) 0 (channelWords (channelOf (entryOf kind salinity temperature pressure))) ⌝ }
 {
     let channel = panel::answer(abi::entry_of(kind, salinity, temperature, pressure));
     match channel {
-        Channel::Accepted { at, density, bulk } => {
+        Channel::Accepted {
+            at,
+            density,
+            bulk,
+            remarks,
+        } => {
             let sigma = at.sigma;
             let tau = at.tau;
             let pi = at.pi;
+            let by_salinity = remarks.salinity;
+            let by_temperature = remarks.temperature;
+            let by_pressure = remarks.pressure;
             out[0] = sigma;
             out[1] = tau;
             out[2] = pi;
             out[3] = density as i64;
             out[4] = bulk as i64;
+            out[5] = by_salinity.number() as i64;
+            out[6] = by_temperature.number() as i64;
+            out[7] = by_pressure.number() as i64;
             0
         }
         Channel::Refused(why) => {
@@ -120,6 +132,9 @@ pub extern "C" fn warpsorrel_channel(
             out[2] = 0;
             out[3] = 0;
             out[4] = 0;
+            out[5] = 0;
+            out[6] = 0;
+            out[7] = 0;
             why.number()
         }
     }

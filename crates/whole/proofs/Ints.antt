@@ -5,9 +5,9 @@ use mathlib.Core.Path.{_≡_, refl, ap}
 use mathlib.Core.Bool.{Bool, true, false, not, cond}
 use native.Mathlib.Omega.{arith}
 use native.Mathlib.Nat.{div-add-mod, mod-lt}
-use lib.Dec.{T, ltb, ltb→lt, nltb→le, le→leb, leb→le}
+use lib.Dec.{T, ltb, ltb→lt, lt→ltb, nltb→le, le→leb, leb→le}
 use lib.IntN.{ℤ, pos, negsuc, negℤ, natAbs, subℕ, _+ℤ_, _-ℤ_, _*ℤ_}
-use lib.Signed.{_≤ℤ_, leZ-yes}
+use lib.Signed.{_≤ℤ_, _<ℤ_, leZ-yes, ltZ-yes}
 use Rattle.whole.specs.Arith.{plus, minus, floorDiv, scaled}
 use Rattle.whole.specs.Order.{_≼_}
 
@@ -142,6 +142,21 @@ of-≤ℤ (pos a) (pos b) h = omega (arith, leb→le a b (h .le))
 of-≤ℤ (pos a) (negsuc b) h = absurd (h .le)
 of-≤ℤ (negsuc a) (pos b) h = omega arith
 of-≤ℤ (negsuc a) (negsuc b) h = omega (arith, leb→le b a (h .le))
+
+pub to-<ℤ : (a b : ℤ) → plus a + minus b < plus b + minus a → a <ℤ b
+to-<ℤ (pos a) (pos b) h = ltZ-yes (lt→ltb a b (omega arith))
+to-<ℤ (pos a) (negsuc b) h = absurd (none a b h)
+  where
+    none : (a b : ℕ) → a + suc b < 0 + 0 → ⊥
+    none a b h = omega arith
+to-<ℤ (negsuc a) (pos b) h = ltZ-yes tt
+to-<ℤ (negsuc a) (negsuc b) h = ltZ-yes (lt→ltb b a (omega arith))
+
+pub of-<ℤ : (a b : ℤ) → a <ℤ b → plus a + minus b < plus b + minus a
+of-<ℤ (pos a) (pos b) h = omega (arith, ltb→lt a b (h .lt))
+of-<ℤ (pos a) (negsuc b) h = absurd (h .lt)
+of-<ℤ (negsuc a) (pos b) h = omega arith
+of-<ℤ (negsuc a) (negsuc b) h = omega (arith, ltb→lt b a (h .lt))
 
 -- an equation of whole numbers is one of naturals
 pub same : (a b : ℤ) → plus a + minus b ≡ plus b + minus a → a ≡ b

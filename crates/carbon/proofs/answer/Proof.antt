@@ -76,7 +76,7 @@ tau-is c = toZ-ofZ w64 _ (record { sfits = c .before .struct-told .given .1 .0 .
 ln-k0-requires : tie.Need-ln-k0-requires
 ln-k0-requires c κs =
     let k = c .before .before .before in
-    rw (sigma-is c, tau-is c) (taken-mild (unpressed (report (k .before .before))) (k .at .given .0 .0) (sym (checked-is (k .before .before)) ∙ k .at .given .1))
+    rw (sigma-is c, tau-is c) (taken-mild (unpressed (report (k .before .before))) (k .at .given .0 .0) (k .at .given .0 .1 .0) (sym (checked-is (k .before .before)) ∙ k .at .given .1))
 
 enum-known-why : tie.Need-enum-known-why
 enum-known-why c = search needs

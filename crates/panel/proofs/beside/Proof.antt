@@ -16,7 +16,7 @@ enum-known-one c = search needs
 common-requires : tie.Need-common-requires
 common-requires c κs = search needs
 
-common-is : (c : tie.After-common) → word (c .common .result) ≡ commonOf (Checked.Taken (c .before .before .one .given .0 .0)) (c .before .before .before .before .args .other)
+common-is : (c : tie.After-common) → word (c .common .result) ≡ commonOf (Checked.Taken (c .before .before .one .given .0 .0) (c .before .before .one .given .0 .1 .0)) (c .before .before .before .before .args .other)
 common-is c = given (c .common .ok) (c .common .ensures)
 
 sounding-at-requires : tie.Need-sounding-at-requires
@@ -24,7 +24,8 @@ sounding-at-requires c κs = search needs
 
 sounding-is : (c : tie.After-sounding-at) →
     let p = c .before .before .before .before .before .before .one .given .0 .0 in
-    c .sounding-at .result ≡ soundingOf (p .sigma) (p .tau) (p .pi) (commonOf (Checked.Taken p) (c .before .before .before .before .before .before .before .before .args .other))
+    let m = c .before .before .before .before .before .before .one .given .0 .1 .0 in
+    c .sounding-at .result ≡ soundingOf (p .sigma) (p .tau) (p .pi) (commonOf (Checked.Taken p m) (c .before .before .before .before .before .before .before .before .args .other))
 sounding-is c =
     let p = c .before .before .before .before .before .before .one .given .0 .0 in
     let g = c .before .struct-told3 .given in
@@ -47,7 +48,7 @@ unfolding besideOf
 returns c =
     let k = c .before .before .before .before .before .before .before .one in
     let other = c .before .before .before .before .before .before .before .before .before .args .other in
-    c .sided .ensures ∙ ap (sideOf (k .given .0 .0)) (sounding-is (c .before)) ∙ sym (ap (λ (x : Checked). besideOf x other) (k .given .1))
+    c .sided .ensures ∙ ap (sideOf (k .given .0 .0) (k .given .0 .1 .0)) (sounding-is (c .before)) ∙ sym (ap (λ (x : Checked). besideOf x other) (k .given .1))
 
 returns-2 : tie.Need-returns-2
 unfolding besideOf

@@ -40,7 +40,7 @@ returns c = let s = start (c .before .before .before) in by-places (s .args .pur
 abbrev first : tie.After-known-told → tie.After-coldest
 first k = k .before .before .before .before
 
-sigma-is : (k : tie.After-known-told) → placeOf salinities (start (first k) .args .salinity) ≡ Place.At (k .before .sigma .given .0 .0)
+sigma-is : (k : tie.After-known-told) → placeOf salinities (start (first k) .args .salinity) ≡ Place.At (k .before .sigma .given .0 .0) (k .before .sigma .given .0 .1 .0)
 sigma-is k = sym (k .before .before .before .place .ensures) ∙ k .before .sigma .given .1
 
 place-requires-2 : tie.Need-place-requires-2
@@ -69,7 +69,7 @@ abbrev second : tie.After-known-told2 → tie.After-known-told
 second l = l .before .before .before .before
 
 tau-is : (l : tie.After-known-told2)
-    → placeOf (temperatures (start (first (second l)) .args .purpose)) (start (first (second l)) .args .temperature) ≡ Place.At (l .before .tau .given .0 .0)
+    → placeOf (temperatures (start (first (second l)) .args .purpose)) (start (first (second l)) .args .temperature) ≡ Place.At (l .before .tau .given .0 .0) (l .before .tau .given .0 .1 .0)
 tau-is l = tau-placed (second l) (l .before .before .before .place2 .ensures) ∙ l .before .tau .given .1
 
 returns-3 : tie.Need-returns-3

@@ -22,7 +22,7 @@ enum-told c = search needs
 returns : tie.Need-returns
 returns c = by-places Purpose.Density (c .before .before .before .args .self) (sym (c .before .before .place .ensures) ∙ c .enum-told .given .1) refl refl
 
-sigma-is : (k : tie.After-known-told) → placeOf salinities (k .before .before .before .before .args .self .salinity) ≡ Place.At (k .before .sigma .given .0 .0)
+sigma-is : (k : tie.After-known-told) → placeOf salinities (k .before .before .before .before .args .self .salinity) ≡ Place.At (k .before .sigma .given .0 .0) (k .before .sigma .given .0 .1 .0)
 sigma-is k = sym (k .before .before .before .place .ensures) ∙ k .before .sigma .given .1
 
 place-requires-2 : tie.Need-place-requires-2
@@ -40,7 +40,7 @@ returns-2 c =
     by-places Purpose.Density (k .before .before .before .before .args .self) (sigma-is k) (sym (c .before .before .place2 .ensures) ∙ c .enum-told2 .given .1) refl
 
 tau-is : (l : tie.After-known-told2)
-    → placeOf (temperatures Purpose.Density) (l .before .before .before .before .before .before .before .before .args .self .temperature) ≡ Place.At (l .before .tau .given .0 .0)
+    → placeOf (temperatures Purpose.Density) (l .before .before .before .before .before .before .before .before .args .self .temperature) ≡ Place.At (l .before .tau .given .0 .0) (l .before .tau .given .0 .1 .0)
 tau-is l = sym (l .before .before .before .place2 .ensures) ∙ l .before .tau .given .1
 
 place-requires-3 : tie.Need-place-requires-3
