@@ -13,24 +13,11 @@ use lib.Ieee.{Float, fin, up, down}
 use Rattle.whole.specs.Arith.{plus, minus}
 use Rattle.whole.specs.Order.{_≼_}
 use Rattle.whole.proofs.Ints.{add-is, mul-plus, mul-minus, to-≤ℤ, of-≤ℤ, to-<ℤ, of-<ℤ, same}
-use Rattle.floats.specs.Grid.{signed, numer, denom, gridNo, seenFrom, remarkOf, remarkNumber, AtMost}
+use Rattle.floats.specs.Grid.{signed, numer, denom, gridNo, seenFrom, inSteps as steps, pointOf as at, remarkOf, remarkNumber, InHalf, AtMost}
 use Rattle.floats.specs.declared.Remark.{Remark}
 use Rattle.floats.specs.declared.Remark.the-variants.{Below, On, Above}
 use Rattle.floats.proofs.Floors.{across, under}
 use Rattle.floats.proofs.Order.{denom-pos, low, high}
-
--- ---- the exact value in k steps to 1 is steps k x over denom x; a whole number g is at g x over the same
-abbrev pub steps : ℕ → Float → ℤ
-steps k x = numer x *ℤ pos k
-
-abbrev pub at : ℤ → Float → ℤ
-at g x = g *ℤ pos (denom x)
-
--- below: from g − ½ on, and less than g; above: more than g, and less than g + ½
-unfoldable pub InHalf : Remark → ℕ → ℤ → Float → Type 0
-InHalf Below k g x = ((pos 2 *ℤ at g x) ≤ℤ (pos 2 *ℤ steps k x +ℤ pos (denom x))) × (steps k x <ℤ at g x)
-InHalf On k g x = steps k x ≡ at g x
-InHalf Above k g x = (at g x <ℤ steps k x) × ((pos 2 *ℤ steps k x) <ℤ (pos 2 *ℤ at g x +ℤ pos (denom x)))
 
 -- ---- tests and what they tell
 le-true : (a b : ℤ) → a ≼ b → leZ a b ≡ true

@@ -1,8 +1,9 @@
 -- SPEC, "A reading": a float's exact value as a fraction, the range test on it, its grid number, and on which side of that it lies.
 use Prim.Native.Nat.{ℕ, _*_}
+use mathlib.Core.Path.{_≡_}
 use mathlib.Core.Bool.{Bool, true, false, cond, _&&_}
 use lib.IntN.{ℤ, pos, negℤ, _+ℤ_, _*ℤ_}
-use lib.Signed.{leZ, _≤ℤ_}
+use lib.Signed.{leZ, _≤ℤ_, _<ℤ_}
 use lib.Ieee.{Float, nan, inf, fin, up, down}
 use Rattle.whole.specs.Arith.{floorDiv}
 use Rattle.floats.specs.declared.Remark.{Remark}
@@ -62,15 +63,29 @@ gridNo k x = floorDiv (numer x *ℤ pos (2 * k) +ℤ pos (denom x)) (2 * denom x
 abbrev pub seenFrom : ℤ → ℤ → Remark
 seenFrom g v = cond (leZ g v) (cond (leZ v g) On Above) Below
 
--- the exact value times k seen from its grid number, by multiplying across: nothing is rounded
+-- the exact value times k, and the grid point g, both over the value's own denominator: nothing is rounded
+abbrev pub inSteps : ℕ → Float → ℤ
+inSteps k x = numer x *ℤ pos k
+
+abbrev pub pointOf : ℤ → Float → ℤ
+pointOf g x = g *ℤ pos (denom x)
+
+-- on which side of its grid point the exact value lies
 unfoldable pub remarkOf : ℕ → Float → Remark
-remarkOf k x = seenFrom (gridNo k x *ℤ pos (denom x)) (numer x *ℤ pos k)
+remarkOf k x = seenFrom (pointOf (gridNo k x) x) (inSteps k x)
 
 -- a remark's number: the greater the value, of floats with one grid number, the greater the number. 0 is no remark's
 abbrev pub remarkNumber : Remark → ℕ
 remarkNumber Below = 1
 remarkNumber On = 2
 remarkNumber Above = 3
+
+-- what a remark says beside the grid number g (`lies`, `told` of proofs/Remarks). Below: from g − ½ on, and less than g. Above: more than g, and less
+-- than g + ½
+unfoldable pub InHalf : Remark → ℕ → ℤ → Float → Type 0
+InHalf Below k g x = ((pos 2 *ℤ pointOf g x) ≤ℤ (pos 2 *ℤ inSteps k x +ℤ pos (denom x))) × (inSteps k x <ℤ pointOf g x)
+InHalf On k g x = inSteps k x ≡ pointOf g x
+InHalf Above k g x = (pointOf g x <ℤ inSteps k x) × ((pos 2 *ℤ inSteps k x) <ℤ (pos 2 *ℤ pointOf g x +ℤ pos (denom x)))
 
 -- the range test comes before the rounding
 unfoldable pub placeOf : Range → Float → Place

@@ -53,7 +53,7 @@ unfolding ofBits channelOf checkedFor placedFor placeOf inside gridNo remarkOf w
 deep-is = refl
 
 -- the nearest floats of 34.999 and -0.1 °C, which lie above and below, at 1,000 bar
-abbrev off : Entry
+abbrev pub off : Entry
 off = Entry.Reading (Report.Deep (floatOf 0xFA 0xFE 0x0B 0x42) (floatOf 0xCD 0xCC 0xCC 0xBD) (floatOf 0x00 0x00 0x7A 0x44))
 
 pub off-is : channelOf off ≡ Channel.Accepted (record { sigma = pos 34_999; tau = neg 100; pi = pos 100_000 }) 1_070_986 2_497_928 (record { salinity = Above; temperature = Below; pressure = On })

@@ -3,16 +3,19 @@
 use mathlib.Core.Path.{_≡_, sym, ap, ap₂, _∙_}
 use contract.Lifetimes
 use lib.Seq.{sets}
+use Rattle.channels.specs.declared.Channel.{Channel}
 use Rattle.channels.specs.declared.Comparison.{Comparison}
-use Rattle.channels.specs.Numbers.{needleNumber}
-use Rattle.panel.specs.Panel.{comparisonOf}
+use Rattle.channels.specs.Numbers.{channelNumber, needleNumber}
+use Rattle.panel.specs.Panel.{channelOf, comparisonOf}
+use Rattle.panel.proofs.answer.Reads as panel-answer
 use Rattle.panel.proofs.paired.Reads as paired
-use Rattle.abi.specs.Abi.{entryOf, comparisonWords}
+use Rattle.abi.specs.Abi.{entryOf, channelWords, comparisonWords}
 use Rattle.roots.specs.Search.{searchOf, searchNumber, searchWords}
 use Rattle.roots.specs.declared.Search.{Search}
 use Rattle.roots.proofs.search_at.Reads as search-at
 use Rattle.carbon.specs.Carbon.{solubilityOf, solubilityNumber, solubilityValue}
 use Rattle.carbon.proofs.answer.Reads as answer
+use Rattle.warpsorrel.proofs.warpsorrel_channel.Reads as channel
 use Rattle.warpsorrel.proofs.warpsorrel_co2.Reads as co2
 use Rattle.warpsorrel.proofs.warpsorrel_needle.Reads as needle
 use Rattle.warpsorrel.proofs.warpsorrel_root.Reads as root
@@ -26,6 +29,15 @@ needle-told κs a r s told κs′ b m t paired-told left right =
     let e = sym (paired-told ∙ ap₂ comparisonOf left right) in
     let out = a .1 .1 .1 .1 .1 .1 .1 .1 .0 .now in
     (told .0 ∙ ap (λ (x : Comparison). needleNumber (x .needle)) e, told .1 ∙ ap (λ (x : Comparison). sets out 0 (comparisonWords x)) e)
+
+-- so does the call for a channel what `panel::answer` tells of the same report: its number, and its words with the remarks last
+pub channel-told :
+    (κs : Lifetimes.Lfts 1) (a : _) (r : _) (s : _) → channel.Learnt κs a r s → (κs′ : Lifetimes.Lfts 0) (b : _) (c : _) (t : _) → panel-answer.Learnt κs′ b c t →
+    b .0 ≡ entryOf (a .0) (a .1 .0) (a .1 .1 .0) (a .1 .1 .1 .0) →
+    (r ≡ channelNumber c) × (s .1 .1 .1 .1 .0 .now ≡ sets (a .1 .1 .1 .1 .0 .now) 0 (channelWords c))
+channel-told κs a r s told κs′ b c t answered e =
+    let f = sym (answered ∙ ap channelOf e) in
+    (told .0 ∙ ap channelNumber f, told .1 ∙ ap (λ (x : Channel). sets (a .1 .1 .1 .1 .0 .now) 0 (channelWords x)) f)
 
 -- and the call for carbon dioxide what `carbon::answer` tells of the same report
 pub co2-told :
