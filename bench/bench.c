@@ -76,7 +76,7 @@ static void take_stream(const char *which) {
 static const char *const shapes[] = {"accepted", "refused", "sheet"};
 /* Rows in a timed turn, so many that no processor learns them by heart; the longest row, with bytes to spare. */
 #define ROWS 2048
-#define ROW 64
+#define ROW 72
 static struct row rows[MOST];
 static uint8_t table[ROWS * ROW];
 
@@ -88,13 +88,15 @@ static void take_rows(const char *which) {
         const struct reading *r = &readings[i];
         int number = i / 2 + 1, side = i % 2;
         if (which == shapes[0]) {
-            int density = (int)warpsorrel_density(r->sigma, r->tau, r->pi), bulk = (int)warpsorrel_bulk(r->sigma, r->tau, r->pi);
-            int64_t ln_k0;
+            int64_t channel[8], ln_k0;
+            warpsorrel_channel(1, r->salinity, r->temperature, r->pressure, channel);
             warpsorrel_co2(1, r->salinity, r->temperature, r->pressure, &ln_k0);
-            rows[i] = (struct row){ACCEPTED, number, side, {(int)r->sigma, (int)r->tau, (int)r->pi, density, bulk, (int)ln_k0},
+            int density = (int)channel[3], bulk = (int)channel[4], letters = 0;
+            for (int k = 5; k < 8; k++) letters = letters << 8 | " boa"[channel[k]];
+            rows[i] = (struct row){ACCEPTED, number, side, {(int)r->sigma, (int)r->tau, (int)r->pi, density, bulk, (int)ln_k0, letters},
                                    {r->s, r->t, r->p, density / 1000.0, bulk / 100.0, (double)ln_k0 / 1e6}};
         } else if (which == shapes[1]) {
-            rows[i] = (struct row){REFUSED, number, side, {1, 1, 1, 1, 1, 1}, {0}};
+            rows[i] = (struct row){REFUSED, number, side, {1, 1, 1, 1, 1, 1, 1}, {0}};
         } else {
             int pair = i % (MOST / 2);
             int64_t out[3];
@@ -124,6 +126,19 @@ static uint64_t double_grid(int n) {
     for (int i = 0; i < n; i++) sum += double_density(readings[i].s, readings[i].t, readings[i].p);
     return (uint64_t)sum;
 }
+
+/* From floats, all checks, by all eight words. */
+#define CHANNEL(name, channel) \
+    static uint64_t name(int n) { \
+        int64_t out[8], sum = 0; \
+        for (int i = 0; i < n; i++) { \
+            sum += channel(1, readings[i].salinity, readings[i].temperature, readings[i].pressure, out); \
+            for (int k = 0; k < 8; k++) sum += out[k]; \
+        } \
+        return (uint64_t)sum; \
+    }
+CHANNEL(library_channel, warpsorrel_channel)
+CHANNEL(c_channel, plain_channel)
 
 #define NEEDLE(name, needle) \
     static uint64_t name(int n) { \
@@ -202,6 +217,8 @@ static const struct work {
     {"reading", "plain-jump", jump_grid, MOST, FEW, 1, "million"},
     {"reading", "plain-sqrt", sqrt_grid, MOST, FEW, 1, "million"},
     {"reading", "double", double_grid, MOST, FEW, 1, "million"},
+    {"channel", "library", library_channel, MOST, FEW, 1, "million"},
+    {"channel", "plain", c_channel, MOST, FEW, 1, "million"},
     {"needle", "library", library_needle, MOST, FEW, 0.5, "million"},
     {"needle", "plain", c_needle, MOST, FEW, 0.5, "million"},
     {"needle", "double", formula_needle, MOST, FEW, 0.5, "million"},
@@ -220,8 +237,8 @@ static const struct {
     const char *what;
     const char *const *data;
     void (*take)(const char *);
-} all[] = {{"reading", waters, take_readings}, {"needle", waters, take_readings}, {"co2", waters, take_mild}, {"page", streams, take_stream},
-           {"row", shapes, take_rows}};
+} all[] = {{"reading", waters, take_readings}, {"channel", waters, take_readings}, {"needle", waters, take_readings}, {"co2", waters, take_mild},
+           {"page", streams, take_stream}, {"row", shapes, take_rows}};
 #define ALL (int)(sizeof all / sizeof *all)
 
 /* Whether a work answers to a thing's data: a refused row has no doubles. */
@@ -236,13 +253,28 @@ static int differs(const char *what, const char *data, int i) {
     return 1;
 }
 
-/* Whether ln K0 differs, of a report with a float of any sort in one place. */
-static int co2_differs(const struct reading *r, uint32_t kind) {
+/* A report's floats, or one of them of any sort: refused, next to zero, at an end of a range; on the grid, beside it, a half. */
+static void any_floats(const struct reading *r, float floats[3]) {
     static const uint32_t sorts[] = {0x7fc00000, 0xff800001, 0x7f800000, 0xff800000, 0x00000000, 0x80000000, 0x80000001, 0x42280000,
-                                     0x42280001, 0x42200000, 0x42200001, 0xbf800000, 0x447a0001};
-    float floats[3] = {r->salinity, r->temperature, r->pressure};
+                                     0x42280001, 0x42200000, 0x42200001, 0xbf800000, 0x447a0001, 0x00000001, 0x447a0000, 0xbf800001,
+                                     0xbf7fffff, 0x3e000000, 0x3e000001, 0x3dffffff, 0x3d800000, 0xbd800000, 0x3d800001, 0xbd800001};
+    const float own[3] = {r->salinity, r->temperature, r->pressure};
+    memcpy(floats, own, sizeof own);
     if (draw(2) == 0) memcpy(&floats[draw(3)], &sorts[draw(sizeof sorts / sizeof *sorts)], 4);
+}
+
+static int channel_differs(const struct reading *r, uint32_t kind) {
+    float floats[3];
+    int64_t one[8], two[8];
+    any_floats(r, floats);
+    uint32_t refusal = warpsorrel_channel(kind, floats[0], floats[1], floats[2], one);
+    return refusal != plain_channel(kind, floats[0], floats[1], floats[2], two) || memcmp(one, two, sizeof one) != 0;
+}
+
+static int co2_differs(const struct reading *r, uint32_t kind) {
+    float floats[3];
     int64_t one, two;
+    any_floats(r, floats);
     uint32_t refusal = warpsorrel_co2(kind, floats[0], floats[1], floats[2], &one);
     return refusal != plain_co2(kind, floats[0], floats[1], floats[2], &two) || one != two;
 }
@@ -287,6 +319,7 @@ static int check(void) {
                 return differs("needle", waters[d], i);
             off = double_needle(l->s, l->t, lk == WARPSORREL_DEEP ? l->p : 0, r->s, r->t, rk == WARPSORREL_DEEP ? r->p : 0) - (double)one[2] / 1000;
             if (refusal == 0 && (off > 0.0012 || off < -0.0012)) return differs("needle in doubles", waters[d], i);
+            if (channel_differs(r, lk)) return differs("channel", waters[d], i);
             if (co2_differs(r, rk)) return differs("ln K0", waters[d], i);
         }
         take_mild(waters[d]);
@@ -306,7 +339,8 @@ static int check(void) {
         for (int i = 0; i < MOST; i++)
             if (row_differs(&rows[i], (size_t)i % ROW)) return differs("row", shapes[d], i);
     }
-    printf("the library and C agree: %d readings, %d needles, %d of ln K0, 3 pages, %d rows\n", 3 * MOST, 3 * MOST, 6 * MOST, 3 * MOST);
+    printf("the library and C agree: %d readings, %d channels, %d needles, %d of ln K0, 3 pages, %d rows\n", 3 * MOST, 3 * MOST, 3 * MOST,
+           6 * MOST, 3 * MOST);
     return 0;
 }
 

@@ -11,6 +11,7 @@ objdump, map_path, program, *emulator = sys.argv[1:]
 step = "-one-insn-per-tb" if "-one-insn-per-tb" in subprocess.run([*emulator, "-help"], capture_output=True, text=True).stdout else "-singlestep"
 
 WORK = [("reading", data, who) for data in ("uniform", "sea-like", "one-salinity") for who in ("library", "plain", "plain-jump", "plain-sqrt", "double")]
+WORK += [("channel", data, who) for data in ("uniform", "sea-like", "one-salinity") for who in ("library", "plain")]
 WORK += [("needle", data, who) for data in ("uniform", "sea-like", "one-salinity") for who in ("library", "plain", "double")]
 WORK += [("co2", data, who) for data in ("uniform", "sea-like", "one-salinity") for who in ("library", "plain", "double")]
 WORK += [("page", data, who) for data in ("deep", "surface", "missing") for who in ("library", "plain")]

@@ -23,6 +23,7 @@ struct report {
 struct channel {
     uint32_t refusal;
     int64_t sigma, tau, pi, density, bulk;
+    int64_t remarks[3]; /* of the salinity, the temperature, the pressure */
 };
 
 struct co2 {
@@ -52,9 +53,9 @@ static struct root root_of(int64_t sigma, uint32_t trials) {
 }
 
 static struct channel channel_of(struct report r) {
-    int64_t out[5];
+    int64_t out[8];
     uint32_t refusal = warpsorrel_channel(r.kind, r.salinity, r.temperature, r.pressure, out);
-    return (struct channel){refusal, out[0], out[1], out[2], out[3], out[4]};
+    return (struct channel){refusal, out[0], out[1], out[2], out[3], out[4], {out[5], out[6], out[7]}};
 }
 
 static struct co2 co2_of(struct report r) {
@@ -91,6 +92,15 @@ static const char *words_of(uint32_t refusal) {
     }
 }
 
+static const char *word_of(int64_t remark) {
+    switch (remark) {
+    case WARPSORREL_BELOW: return "below";
+    case WARPSORREL_ON: return "on";
+    case WARPSORREL_ABOVE: return "above";
+    default: return "none"; /* 0: the channel is refused */
+    }
+}
+
 static void tell(uint32_t refusal) {
     if (refusal > WARPSORREL_REFUSED_RIGHT) {
         printf("  %" PRIu32 ": right: %s\n", refusal, words_of(refusal - WARPSORREL_REFUSED_RIGHT));
@@ -116,8 +126,9 @@ static void show_root(int64_t sigma, uint32_t trials) {
 
 static void show_channel(struct report r) {
     struct channel c = channel_of(r);
-    printf("%s: refusal %" PRIu32 ", grid %" PRId64 " %" PRId64 " %" PRId64 ", density %" PRId64 ", bulk modulus %" PRId64 "\n", r.name,
-           c.refusal, c.sigma, c.tau, c.pi, c.density, c.bulk);
+    printf("%s: refusal %" PRIu32 ", grid %" PRId64 " %" PRId64 " %" PRId64 ", density %" PRId64 ", bulk modulus %" PRId64
+           ", remarks %s %s %s\n", r.name, c.refusal, c.sigma, c.tau, c.pi, c.density, c.bulk, word_of(c.remarks[0]), word_of(c.remarks[1]),
+           word_of(c.remarks[2]));
     tell(c.refusal);
 }
 
@@ -205,11 +216,14 @@ int main(void) {
     const struct report abyss = {"abyss", WARPSORREL_DEEP, 34.25f, 7.5f, 1000.5f};
     const struct report frost = {"frost", WARPSORREL_SURFACE, 34.25f, -1, 0};
     const struct report blind = {"blind", WARPSORREL_DEEP, 34.25f, 7.5f, NAN}; /* the deep one's water, its depth not known */
+    /* Off the grid: no 32-bit float is just 5.1, 33.9 or -1.1, and 0.004 bar goes to 0.00. A surface's pressure is not read: it is on. */
+    const struct report bench = {"bench", WARPSORREL_DEEP, 35, 5.1f, 0.004f};
+    const struct report winter = {"winter", WARPSORREL_SURFACE, 33.9f, -1.1f, NAN};
     /* Records that gave no reading have a channel, and a place on a line, too. */
     const struct report cut = {"cut", WARPSORREL_CUT, 0, 0, 0};
     const struct report unknown = {"unknown", WARPSORREL_UNKNOWN, 0, 0, 0};
     const struct report length = {"length", WARPSORREL_LENGTH, 0, 0, 0};
-    const struct report every[] = {fjord, deep, none, broken, brine, hot, abyss, frost, blind, cut, unknown, length};
+    const struct report every[] = {fjord, deep, none, broken, brine, hot, abyss, frost, blind, bench, winter, cut, unknown, length};
     for (size_t i = 0; i < sizeof every / sizeof *every; i++) show_channel(every[i]);
     /* The frost has a density and no ln K0; the abyss and the blind one, whose pressures are refused, have the deep one's ln K0 and no density. */
     for (size_t i = 0; i < sizeof every / sizeof *every; i++) show_co2(every[i]);

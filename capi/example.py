@@ -28,7 +28,9 @@ def show_root(panel: Panel, sigma: int, trials: int) -> None:
 
 def show_channel(panel: Panel, name: str, report: Report) -> None:
     c = panel.channel(report)
-    print(f"{name}: refusal {c.refusal:d}, grid {c.sigma} {c.tau} {c.pi}, density {c.density}, bulk modulus {c.bulk}")
+    numbers = f"grid {c.sigma} {c.tau} {c.pi}, density {c.density}, bulk modulus {c.bulk}"
+    remarks = " ".join(remark.word for remark in c.remarks) if c.remarks else "none none none"
+    print(f"{name}: refusal {c.refusal:d}, {numbers}, remarks {remarks}")
     tell(c.refusal)
 
 
@@ -83,9 +85,12 @@ def main(panel: Panel) -> None:
     abyss = ("abyss", Report.deep(34.25, 7.5, 1_000.5))
     frost = ("frost", Report.surface(34.25, -1))
     blind = ("blind", Report.deep(34.25, 7.5, float("nan")))  # the deep one's water, its depth not known
+    # Off the grid: no 32-bit float is just 5.1, 33.9 or -1.1, and 0.004 bar goes to 0.00. A surface's pressure is not read: it is on.
+    bench = ("bench", Report.deep(35, 5.1, 0.004))
+    winter = ("winter", Report(Kind.SURFACE, 33.9, -1.1, float("nan")))
     # Records that gave no reading have a channel, and a place on a line, too.
     cut, unknown, length = ("cut", Report(Kind.CUT)), ("unknown", Report(Kind.UNKNOWN)), ("length", Report(Kind.LENGTH))
-    every = fjord, deep, none, broken, brine, hot, abyss, frost, blind, cut, unknown, length
+    every = fjord, deep, none, broken, brine, hot, abyss, frost, blind, bench, winter, cut, unknown, length
     for each in every:
         show_channel(panel, *each)
     # The frost has a density and no ln K0; the abyss and the blind one, whose pressures are refused, have the deep one's ln K0 and no density.

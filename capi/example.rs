@@ -9,7 +9,7 @@ mod panel {
             pub fn warpsorrel_density(sigma: i64, tau: i64, pi: i64) -> u32;
             pub fn warpsorrel_bulk(sigma: i64, tau: i64, pi: i64) -> u32;
             pub fn warpsorrel_root(sigma: i64, trials: u32, out: *mut [u64; 4]) -> u32;
-            pub fn warpsorrel_channel(kind: u32, salinity: f32, temperature: f32, pressure: f32, out: *mut [i64; 5]) -> u32;
+            pub fn warpsorrel_channel(kind: u32, salinity: f32, temperature: f32, pressure: f32, out: *mut [i64; 8]) -> u32;
             pub fn warpsorrel_co2(kind: u32, salinity: f32, temperature: f32, pressure: f32, out: *mut i64) -> u32;
             pub fn warpsorrel_needle(
                 left_kind: u32, left_salinity: f32, left_temperature: f32, left_pressure: f32,
@@ -30,7 +30,7 @@ mod panel {
     }
 
     /// The version that these declarations were written for.
-    pub const VERSION: u32 = 2;
+    pub const VERSION: u32 = 3;
 
     /// The version of the library.
     pub fn version() -> u32 {
@@ -64,6 +64,16 @@ mod panel {
         match refusal {
             4 => "the temperature is not from 0 to 40 degrees C".to_string(),
             _ => words(refusal),
+        }
+    }
+
+    /// Where a float lay, seen from its grid point. A refused channel has no remark.
+    pub fn word(remark: i64) -> &'static str {
+        match remark {
+            1 => "below",
+            2 => "on",
+            3 => "above",
+            _ => "none",
         }
     }
 
@@ -127,7 +137,7 @@ mod panel {
         fn parts(self) -> (u32, f32, f32, f32) {
             match self {
                 Report::Deep { salinity, temperature, pressure } => (1, salinity, temperature, pressure),
-                Report::Surface { salinity, temperature } => (2, salinity, temperature, 0.0),
+                Report::Surface { salinity, temperature } => (2, salinity, temperature, f32::NAN), // a pressure that is not read
                 Report::Missing => (3, 0.0, 0.0, 0.0),
                 Report::Cut => (65_542, 0.0, 0.0, 0.0),
                 Report::UnknownKind => (65_543, 0.0, 0.0, 0.0),
@@ -137,10 +147,10 @@ mod panel {
 
         pub fn channel(self) -> Channel {
             let (kind, salinity, temperature, pressure) = self.parts();
-            let mut out = [0; 5];
+            let mut out = [0; 8];
             let refusal = unsafe { abi::warpsorrel_channel(kind, salinity, temperature, pressure, &mut out) };
-            let [sigma, tau, pi, density, bulk] = out;
-            Channel { refusal, at: Grid { sigma, tau, pi }, density, bulk }
+            let [sigma, tau, pi, density, bulk, remarks @ ..] = out;
+            Channel { refusal, at: Grid { sigma, tau, pi }, density, bulk, remarks }
         }
 
         /// How much carbon dioxide the water will hold. The pressure is not read.
@@ -157,6 +167,8 @@ mod panel {
         pub at: Grid,
         pub density: i64,
         pub bulk: i64,
+        /// Of the salinity, the temperature, the pressure.
+        pub remarks: [i64; 3],
     }
 
     /// ln K0 in millionths; 0 if refused.
@@ -263,7 +275,11 @@ fn show_root(sigma: i64, trials: u32) {
 
 fn show_channel((name, report): (&str, Report)) {
     let c = report.channel();
-    println!("{}: refusal {}, grid {} {} {}, density {}, bulk modulus {}", name, c.refusal, c.at.sigma, c.at.tau, c.at.pi, c.density, c.bulk);
+    let remarks = c.remarks.map(panel::word).join(" ");
+    println!(
+        "{}: refusal {}, grid {} {} {}, density {}, bulk modulus {}, remarks {}",
+        name, c.refusal, c.at.sigma, c.at.tau, c.at.pi, c.density, c.bulk, remarks
+    );
     tell(c.refusal);
 }
 
@@ -344,11 +360,14 @@ fn main() {
     let abyss = ("abyss", Report::Deep { salinity: 34.25, temperature: 7.5, pressure: 1_000.5 });
     let frost = ("frost", Report::Surface { salinity: 34.25, temperature: -1.0 });
     let blind = ("blind", Report::Deep { salinity: 34.25, temperature: 7.5, pressure: f32::NAN }); // the deep one's water, its depth not known
+    // Off the grid: no 32-bit float is just 5.1, 33.9 or -1.1, and 0.004 bar goes to 0.00. A surface's pressure is not read: it is on.
+    let bench = ("bench", Report::Deep { salinity: 35.0, temperature: 5.1, pressure: 0.004 });
+    let winter = ("winter", Report::Surface { salinity: 33.9, temperature: -1.1 });
     // Records that gave no reading have a channel, and a place on a line, too.
     let cut = ("cut", Report::Cut);
     let unknown = ("unknown", Report::UnknownKind);
     let length = ("length", Report::WrongLength);
-    let every = [fjord, deep, none, broken, brine, hot, abyss, frost, blind, cut, unknown, length];
+    let every = [fjord, deep, none, broken, brine, hot, abyss, frost, blind, bench, winter, cut, unknown, length];
     every.into_iter().for_each(show_channel);
     // The frost has a density and no ln K0; the abyss and the blind one, whose pressures are refused, have the deep one's ln K0 and no density.
     every.into_iter().for_each(show_co2);

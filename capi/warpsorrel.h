@@ -28,7 +28,7 @@ extern "C" {
 
 /* ---- The version of what is declared here. It goes up when a call that was there changes what it takes or what it answers; new calls alone do
  * not raise it. A program that loads the library at run time asks once, at its start, and goes on only with the number that it was written for. */
-#define WARPSORREL_VERSION 2u
+#define WARPSORREL_VERSION 3u
 
 /* The version of the library: WARPSORREL_VERSION, if the two belong together. */
 uint32_t warpsorrel_version(void);
@@ -78,10 +78,18 @@ uint32_t warpsorrel_root(int64_t sigma, uint32_t trials, uint64_t out[4]);
 #define WARPSORREL_UNKNOWN 65543u
 #define WARPSORREL_LENGTH 65544u
 
+/* Remarks: where the exact value of a float lies, seen from its grid point. A float halfway between two grid points goes to the upper one, so that
+ * it lies below; minus zero is on. Of two floats with one grid number, the greater remark is the greater float's. 0 is none of them. */
+#define WARPSORREL_BELOW 1 /* below its grid point */
+#define WARPSORREL_ON 2    /* on its grid point */
+#define WARPSORREL_ABOVE 3 /* above its grid point */
+
 /* 0, or the refusal: 6, 7, 8 by the kind, 1 missing, 2 a NaN or an infinity, 3, 4, 5 outside the range of the salinity, the temperature,
- * the pressure. out gets sigma, tau, pi, the density and the bulk modulus; five noughts if refused. The density is within 0.0014 kg/m3 of the
- * published formula at the floats as they were sent, and within 0.0006 at sigma, tau, pi. */
-uint32_t warpsorrel_channel(uint32_t kind, float salinity, float temperature, float pressure, int64_t out[5]);
+ * the pressure. out gets sigma, tau, pi, the density and the bulk modulus, then the remarks of the salinity, the temperature and the pressure;
+ * eight noughts if refused. A surface report's pressure is always on. The density is within 0.0014 kg/m3 of the published formula at the floats
+ * as they were sent, and within 0.0006 at sigma, tau, pi. A program written for version 2 lends five numbers: the three after them would be
+ * overwritten. */
+uint32_t warpsorrel_channel(uint32_t kind, float salinity, float temperature, float pressure, int64_t out[8]);
 
 /* How much carbon dioxide the water will hold: ln K0 of Weiss (1974). 0, or the refusal: 6, 7, 8 by the kind, 1 missing, 2 a NaN or an infinity
  * in the salinity or the temperature, 3 a salinity that is not from 0 to 42, 4 a temperature that is not from 0 to 40 degrees C. The pressure is

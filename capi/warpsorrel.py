@@ -28,6 +28,9 @@ a probe sends them: the nearest, and one too large for that becomes an infinity.
     density  in 0.001 kg/m3, at that pressure
     bulk     secant bulk modulus in 0.01 bar, rounded down
 
+Each float of an accepted reading has a Remark: whether the 32-bit float, not Python's own, lies below, on or above its grid point. 35 is on it; the
+float nearest to 5.1 lies below.
+
 Threads may share a Panel: it keeps nothing between calls.
 """
 from __future__ import annotations
@@ -43,11 +46,11 @@ from types import SimpleNamespace
 from typing import Any, NamedTuple, Optional, SupportsIndex, Union
 
 __all__ = [
-    "VERSION", "LINE", "PAGE", "Stream", "Kind", "Refusal", "Co2Refusal", "Root", "Report", "Channel", "Co2", "Needle", "Side", "Pair",
-    "Written", "LibraryError", "Panel",
+    "VERSION", "LINE", "PAGE", "Stream", "Kind", "Refusal", "Co2Refusal", "Root", "Report", "Remark", "Remarks", "Channel", "Co2", "Needle",
+    "Side", "Pair", "Written", "LibraryError", "Panel",
 ]
 
-VERSION = 2
+VERSION = 3
 """The version of the C ABI that this module was written for."""
 
 LINE = 32
@@ -203,12 +206,35 @@ class Report(NamedTuple):
         return cls(Kind.MISSING)
 
 
+class Remark(IntEnum):
+    """Where the exact value of a 32-bit float lies, seen from its grid point; `word` says it. A float halfway between two grid points goes to the
+    upper one, so that it is BELOW; minus zero is ON. Of two floats with one grid number, the greater remark is the greater float's."""
+
+    BELOW = 1
+    ON = 2
+    ABOVE = 3
+
+    @property
+    def word(self) -> str:
+        """The remark as a word: "below", "on" or "above"."""
+        return self.name.lower()
+
+
+class Remarks(NamedTuple):
+    """The remarks of an accepted reading. A surface reading's pressure is always ON: its float is not read."""
+
+    salinity: Remark
+    temperature: Remark
+    pressure: Remark
+
+
 class Channel(NamedTuple):
-    """One water. Every number is 0 if it is refused.
+    """One water. Every number is 0 if it is refused, and it has no remarks.
 
     sigma, tau, pi  the reading as it was put on the grid: salinity in 0.001, temperature in 0.001 degrees C, pressure in 0.01 bar
     density         in 0.001 kg/m3; within 0.0014 kg/m3 of the published formula at the floats as sent, 0.0006 on the grid
     bulk            secant bulk modulus in 0.01 bar, rounded down
+    remarks         whether salinity, temperature and pressure as sent lie below, on or above sigma, tau and pi; None if refused
     """
 
     refusal: Refusal
@@ -217,6 +243,7 @@ class Channel(NamedTuple):
     pi: int
     density: int
     bulk: int
+    remarks: Optional[Remarks]
 
 
 class Co2(NamedTuple):
@@ -283,7 +310,7 @@ _CALLS: dict[str, tuple[Any, ...]] = {
     "density": (c_uint32, c_int64, c_int64, c_int64),
     "bulk": (c_uint32, c_int64, c_int64, c_int64),
     "root": (c_uint32, c_int64, c_uint32, POINTER(c_uint64 * 4)),
-    "channel": (c_uint32, *_REPORT, POINTER(c_int64 * 5)),
+    "channel": (c_uint32, *_REPORT, POINTER(c_int64 * 8)),
     "co2": (c_uint32, *_REPORT, POINTER(c_int64)),
     "needle": (c_uint32, *_REPORT, *_REPORT, POINTER(c_int64 * 3)),
     "recorder": (c_float, c_uint32),
@@ -412,9 +439,9 @@ class Panel:
 
     def channel(self, report: Report) -> Channel:
         """What the panel makes of one report."""
-        out = (c_int64 * 5)()
+        out = (c_int64 * 8)()
         refusal = self._calls.channel(*_parts(report), out)
-        return Channel(Refusal(refusal), *out)
+        return Channel(Refusal(refusal), *out[:5], None if refusal else Remarks(*map(Remark, out[5:])))
 
     def co2(self, report: Report) -> Co2:
         """How much carbon dioxide the water of one report will hold. Its pressure is not read."""

@@ -10,10 +10,10 @@ struct oracle_report {
     uint32_t kind, floats[3];
 };
 
-/* What a channel answers; noughts if refused. */
+/* What a channel answers; noughts if refused. The remarks are of salinity, temperature, pressure: 1 below its grid point, 2 on it, 3 above it. */
 struct oracle_channel {
     uint32_t refusal;
-    int64_t sigma, tau, pi, density, bulk;
+    int64_t sigma, tau, pi, density, bulk, remarks[3];
 };
 
 struct oracle_needle {

@@ -1,4 +1,4 @@
-"""seeds.py FOLDER: the streams that the fuzzer starts from: SPEC's example, each kind of record and each refusal of one."""
+"""seeds.py FOLDER: the streams that the fuzzer starts from: SPEC's example, each kind of record, each refusal of one, each remark."""
 import os
 import struct
 import sys
@@ -23,6 +23,8 @@ SEEDS = {
     "deep": deep(35, 5, 1000) + deep(0, 25, 0),
     "depths": deep(35, 5, 9) + deep(35, 5, 0.4) + surface(35, 5) + deep(0, 25, 9),
     "half-steps": deep(41.5695, 39.9095, 0.4) + deep(41.5465, 39.8685, 5) + deep(41.9575, 39.9585, 0.595) + surface(41.9935, 39.9025),
+    # on the grid; below and above; halves; next to zero
+    "remarks": deep(35.125, -1.125, 0.25) + deep(33.92, 7.64, 4.03) + deep(0.0625, -0.0625, 0.125) + deep(1e-45, -1e-45, 1e-45),
     "surface": surface(35, 25) + surface(0, 25),
     "missing": MISSING + MISSING,
     "not-a-number": deep(35, float("nan"), 10) + surface(float("inf"), 5),

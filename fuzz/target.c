@@ -1,10 +1,11 @@
 /* Every input is a stream. Held to the oracle: the count of pairs; the page, its refusal and its count; the first pair, the last, one past
- * the end and two picked by the input's bytes, each by all its words; and channels, needle and line of such a pair's reports; ln K0 of every
- * report, with another pressure as well; the root of every report's salinity, and of numbers that are mostly off the grid, with a line of its
- * search. The densities and the needle of such a pair are held as well to what is proved of them beside the published formula at the floats as
- * sent, ln K0 to its equation on the grid, a root to the squares on either side. The bytes and words past an answer and beside it have to keep
- * their values; a room that is too short has to be left untouched. The rounding mode and flush-to-zero are the input's choice: they must
- * change nothing. Called with --long, the input is repeated to about 60,000 bytes, the length from which a stream is too long. */
+ * the end and two picked by the input's bytes, each by all its words; and channels, needle and line of such a pair's reports, a channel at the
+ * surface with another pressure as well; ln K0 of every report, with another pressure too; the root of every report's salinity, and of numbers
+ * that are mostly off the grid, with a line of its search. The densities and the needle of such a pair are held as well to what is proved of them
+ * beside the published formula at the floats as sent, ln K0 to its equation on the grid, a root to the squares on either side. The bytes and
+ * words past an answer and beside it have to keep their values; a room that is too short has to be left untouched. The rounding mode and
+ * flush-to-zero are the input's choice: they must change nothing. Called with --long, the input is repeated to about 60,000 bytes, the length
+ * from which a stream is too long. */
 #include <math.h>
 #include <stdint.h>
 #include <stdio.h>
@@ -121,16 +122,34 @@ static void look_at_formula(const struct oracle_report reports[2], const struct 
     if (!(fabs((double)n.value / 1000 - difference) <= 0.0028 + ALLOWANCE)) fail("the needle and the formula's difference as sent");
 }
 
+/* Some that nothing may read. */
+static uint32_t unread_pressure(void) {
+    static const uint32_t unread[] = {0x7fc00000, 0xff800001, 0x7f800000, 0xff800000, 0x447a0001, 0x80000001, 0, 0x3c23d70a, 0x3c23d70b, 1};
+    static unsigned turn;
+    return unread[turn++ % (sizeof unread / sizeof *unread)];
+}
+
+/* At the surface the pressure is not read, nor is it remarked on. */
+static void look_at_channel(struct report r, const struct oracle_channel *c) {
+    int64_t right[8] = {c->sigma, c->tau, c->pi, c->density, c->bulk, c->remarks[0], c->remarks[1], c->remarks[2]};
+    if (warpsorrel_channel(r.kind, r.salinity, r.temperature, r.pressure, lend_words()) != c->refusal) fail("a channel's refusal");
+    compare_words("a channel", right, 8);
+    if (r.kind != WARPSORREL_SURFACE) return;
+    uint32_t other = unread_pressure();
+    memcpy(&r.pressure, &other, 4);
+    if (warpsorrel_channel(r.kind, r.salinity, r.temperature, r.pressure, lend_words()) != c->refusal) fail("a channel's refusal, another pressure");
+    compare_words("a channel, another pressure", right, 8);
+}
+
 /* The pressure is not read: with the stream's own and with another, as deep and as surface, the answer is the same. Proved on the grid: within 2
  * millionths of the equation. */
 static void look_at_co2(const struct oracle_report *report) {
-    static const uint32_t unread[] = {0x7fc00000, 0xff800001, 0x7f800000, 0xff800000, 0x447a0001, 0x80000001, 0};
-    static unsigned turn;
     struct oracle_co2 right = oracle_co2(report);
     struct report r = report_of(report, right.refusal);
     if (warpsorrel_co2(r.kind, r.salinity, r.temperature, r.pressure, lend_words()) != right.refusal) fail("the refusal of ln K0");
     compare_words("ln K0", &right.value, 1);
-    memcpy(&r.pressure, &unread[turn++ % (sizeof unread / sizeof *unread)], 4);
+    uint32_t other = unread_pressure();
+    memcpy(&r.pressure, &other, 4);
     if (r.kind == WARPSORREL_DEEP || r.kind == WARPSORREL_SURFACE) r.kind = 3 - r.kind;
     if (warpsorrel_co2(r.kind, r.salinity, r.temperature, r.pressure, lend_words()) != right.refusal) fail("the refusal of ln K0, another pressure");
     compare_words("ln K0, another pressure", &right.value, 1);
@@ -165,7 +184,7 @@ static void look_at_roots(const struct oracle_report *report, uint64_t drawn) {
 /* The line is written in a room of WARPSORREL_LINE and in one of lent bytes. */
 static void look_at_pair(const uint8_t *stream, size_t length, size_t before, uint32_t number, size_t lent) {
     struct oracle_report reports[2];
-    struct oracle_channel c[2] = {{0, 0, 0, 0, 0, 0}, {0, 0, 0, 0, 0, 0}};
+    struct oracle_channel c[2] = {{0, 0, 0, 0, 0, 0, {0, 0, 0}}, {0, 0, 0, 0, 0, 0, {0, 0, 0}}};
     int found = oracle_pair(stream, length, before, reports, c);
     struct oracle_needle n = found ? oracle_needle(c) : (struct oracle_needle){0, 0};
     int64_t right[8] = {c[0].refusal, c[0].density, c[0].bulk, c[1].refusal, c[1].density, c[1].bulk, n.refusal, n.value};
@@ -176,10 +195,7 @@ static void look_at_pair(const uint8_t *stream, size_t length, size_t before, ui
     struct report r[2];
     for (int i = 0; i < 2; i++) {
         r[i] = report_of(&reports[i], c[i].refusal);
-        int64_t channel[5] = {c[i].sigma, c[i].tau, c[i].pi, c[i].density, c[i].bulk};
-        uint32_t refusal = warpsorrel_channel(r[i].kind, r[i].salinity, r[i].temperature, r[i].pressure, lend_words());
-        if (refusal != c[i].refusal) fail("a channel's refusal");
-        compare_words("a channel", channel, 5);
+        look_at_channel(r[i], &c[i]);
     }
     int64_t needle[3] = {c[0].density, c[1].density, n.value};
     uint32_t refusal = warpsorrel_needle(r[0].kind, r[0].salinity, r[0].temperature, r[0].pressure,
@@ -275,6 +291,8 @@ static const uint32_t floats[] = {
     0x00000000, 0x80000000, 0x00000001, 0x80000001, 0x3f800000, 0x42280000, 0x42280001, 0x4227ffff, 0xc0000000, 0xc0000001, 0xbfffffff,
     0x42200000, 0x42200001, 0x421fffff, 0x447a0000, 0x447a0001, 0x4479ffff, 0x7f800000, 0xff800000, 0x7fc00000, 0x7f800001, 0xffffffff,
     0x3d800000, 0xbd800000, 0x3a03126f, 0x3a031270, 0x420c0000, 0x40a00000, 0x41c80000, 0x7f7fffff, 0xbf800000, 0xba03126f, 0x41d6cccd,
+    0x3e000000, 0x3e000001, 0x3dffffff, 0xbe000000, 0xbe000001, 0xbdffffff, 0x3a83126f, 0x3a83126e, 0xba83126f, 0x3c23d70a, 0x3c23d70b,
+    0x007fffff, 0x807fffff,
 };
 #define FLOATS (sizeof floats / sizeof *floats)
 

@@ -4,10 +4,11 @@
     python3 tests/calls.py COMMAND ...      the command that starts the driver (tests/driver.c)
 
 The version; pairs, pair and page on the hard streams of tests/streams.py and on longer ones; lines of every kind of entry, number and room,
-each with each; every kind of report; ln K0 with every special float in every place, each salinity with each temperature; roots of salinities
-from end to end and of numbers off the grid, with every number of trials that changes anything and with greater ones; special floats, waters
-whose ln K0 hangs on the last unit, waters at two depths, and some roots, in every rounding mode, with denormals kept and flushed. That nothing
-else is written is the driver's to see: it ends then, which counts as a difference.
+each with each; every kind of report; channels with floats beside their grid points, on them and about the halves, and the special ones each
+with each; ln K0 with every special float in every place, each salinity with each temperature; roots of salinities from end to end and of numbers
+off the grid, with every number of trials that changes anything and with greater ones; special floats, remarks, waters whose ln K0 hangs on the
+last unit, waters at two depths, and some roots, in every rounding mode, with denormals kept and flushed. That nothing else is written is the
+driver's to see: it ends then, which counts as a difference.
 """
 import random
 import struct
@@ -21,9 +22,9 @@ from typing import NamedTuple
 import model
 from model import CUT, LENGTH, LONGEST_PAGE, bits_of, channel, co2, needle
 from streams import (ALL_KINDS, DEEP, HUGE, INFINITIES, LONGEST, MISSING, NANS, PLAIN, SURFACE, TINY, ZEROS, any_record, co2_reports, covered,
-                     depth_pairs, halves, hard_streams, made, record_of, specials)
+                     covered_remarks, depth_pairs, halves, hard_streams, made, points, record_of, remarked_reports, specials)
 
-VERSION = 2
+VERSION = 3
 SHORTEST_ROOM = 32  # for a line
 NOWHERE = 2**64 - 1  # for a length or a room: NULL, and 0 bytes
 PATIENCE = 300  # seconds after which a driver counts as hanging
@@ -88,7 +89,8 @@ def line_call(number, left, right, room):
 
 
 def channel_call(report):
-    return Call("channel", asked(b"c", "4I", *report), words(*channel(*report)))
+    *numbers, remarks = channel(*report)
+    return Call("channel", asked(b"c", "4I", *report), words(*numbers, *remarks))
 
 
 def co2_call(report):
@@ -188,6 +190,20 @@ def kind_calls(rng):
         yield co2_call((kind, *PLAIN))
 
 
+# ---- channels
+
+
+def channel_calls(rng):
+    """Remarks each with each; every entry; each special float, each half and each point in its place, deep and at the surface; a pressure of
+    each sort that is not read; specials of each place with each other; floats of any bits."""
+    yield from map(channel_call, [*remarked_reports(), *ENTRIES])
+    every = [[*dict.fromkeys(specials(place) + halves(place, rng) + points(place, rng))] for place in range(3)]
+    for place, bits in ((place, bits) for place in range(3) for bits in every[place]):
+        yield from (channel_call((kind, *PLAIN[:place], bits, *PLAIN[place + 1 :])) for kind in (1, 2))
+    yield from (channel_call((rng.choice((1, 2)), *map(rng.choice, every))) for _ in range(20_000))
+    yield from (channel_call((rng.choice((1, 2, 3)), *(rng.getrandbits(32) for _ in range(3)))) for _ in range(3_000))
+
+
 # ---- ln K0
 
 
@@ -225,11 +241,12 @@ NEAREST = (0, 0)  # as a program starts
 
 
 def mode_reports(rng):
-    """Every special float in every place, the rest plain; each place special; halves of the grid."""
+    """Every special float in every place, the rest plain; each place special; halves of the grid, and its points; remarks each with each."""
     for place in range(3):
-        for bits in dict.fromkeys(specials(place) + rng.sample(halves(place, rng), 100)):
+        for bits in dict.fromkeys(specials(place) + rng.sample(halves(place, rng), 100) + rng.sample(points(place, rng), 60)):
             floats = [*PLAIN[:place], bits, *PLAIN[place + 1 :]]
             yield from ((kind, *floats) for kind in ((1, 2) if place < 2 else (1,)))
+    yield from remarked_reports()
     yield from co2_reports()
     hardest = NANS + INFINITIES + ZEROS + TINY + HUGE
     yield from ((1, *(rng.choice(hardest if rng.random() < 0.5 else specials(i)) for i in range(3))) for _ in range(400))
@@ -256,7 +273,7 @@ def mode_calls(reports):
 # ---- the driver
 
 # Of the answers.
-SIZES = {"version": 4, "stream": 0, "pairs": 8, "pair": 72, "channel": 48, "co2": 16, "needle": 32, "recorder": 4, "root": 40, "mode": 4}
+SIZES = {"version": 4, "stream": 0, "pairs": 8, "pair": 72, "channel": 72, "co2": 16, "needle": 32, "recorder": 4, "root": 40, "mode": 4}
 
 
 def taken(what, answers, at):
@@ -317,9 +334,11 @@ def every_batch():
     rng = random.Random(44)
     every = list(dict.fromkeys(hard_streams()))
     covered(every)
+    covered_remarks(every)
     yield from batches(stream_calls([*every, *long_streams(rng)]))
     yield from batches(line_calls(ENTRIES))
     yield list(kind_calls(rng))
+    yield list(channel_calls(rng))
     yield list(co2_calls(rng))
     yield from mode_calls(list(mode_reports(rng)))
     yield list(root_calls(rng))

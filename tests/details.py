@@ -14,7 +14,7 @@ from pathlib import Path
 import model
 from model import LONGEST_DETAILS, LONGEST_STREAM, QUANTITIES, pairs
 from programs import PATIENCE, SAMPLE, Trial, block
-from streams import LONGEST, bits_of, covered_co2, deep, hard_streams
+from streams import LONGEST, bits_of, covered_co2, covered_remarks, deep, hard_streams
 
 
 def grid_numbers():
@@ -24,9 +24,10 @@ def grid_numbers():
 
 
 def covered(every):
-    """Every refusal on either side, of a density and of ln K0, every grid number, the lengths around the limit and the longest table are among what
-    is tried."""
+    """Every refusal on either side, of a density and of ln K0, every grid number, all remarks, the lengths around the limit and the longest table
+    are among what is tried."""
     covered_co2(every)
+    covered_remarks(every)
     found = [pair for stream in every if len(stream) <= LONGEST_STREAM for pair in pairs(stream)]
     for side in (0, 1):
         assert {pair[side].refusal for pair in found} == set(range(9))
@@ -34,12 +35,12 @@ def covered(every):
         numbers = {getattr(channel, name) for pair in found for channel in pair if not channel.refusal}
         assert numbers == set(range(low * unit, high * unit + 1)), name
     assert {0, LONGEST_STREAM, LONGEST_STREAM + 1} <= set(map(len, every)) and LONGEST in every
-    assert len(model.details(LONGEST)) == LONGEST_DETAILS and model.details(LONGEST).endswith(b"\n7500,right,R1,R1,R1,R1,R1,R1\n")
+    assert len(model.details(LONGEST)) == LONGEST_DETAILS and model.details(LONGEST).endswith(b"\n7500,right,R1,R1,R1,R1,R1,R1,R1\n")
 
 
 class Details(Trial):
     name = "details"
-    writes = 32  # of up to 425,343 bytes
+    writes = 32  # of up to 470,351 bytes
 
     def expected(self, stream):
         return model.details(stream)

@@ -155,13 +155,13 @@ static void root(void) {
     give_lent(refusal, words, 6);
 }
 
-/* c report: refusal, sigma, tau, pi, density, bulk modulus (int64 each) */
+/* c report: refusal, sigma, tau, pi, density, bulk modulus, the remarks of salinity, temperature, pressure (int64 each) */
 static void channel(void) {
     struct report r = need_report();
-    int64_t words[7];
-    lend(words, 7);
+    int64_t words[10];
+    lend(words, 10);
     uint32_t refusal = warpsorrel_channel(r.kind, r.salinity, r.temperature, r.pressure, words + 1);
-    give_lent(refusal, words, 7);
+    give_lent(refusal, words, 10);
 }
 
 /* o report: refusal, ln K0 in millionths (int64 each) */

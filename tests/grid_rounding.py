@@ -223,7 +223,7 @@ def asked(command, requests, answer):
 
 
 def channels(command, readings):
-    return asked(command, [struct.pack("<cI3f", b"c", 1, *r) for r in readings], "<6q")
+    return asked(command, [struct.pack("<cI3f", b"c", 1, *r) for r in readings], "<9q")
 
 
 def needle(command, left, right):
@@ -280,7 +280,7 @@ def main():
         p = to_float(rng.uniform(*RANGES[2]))
         readings += [(*extreme(rng, points["salinity and temperature"])[:2], p) for _ in range(WATERS)]
     at_level, grid_level, far, far_at, from_grid, over = {}, {}, 0.0, None, 0.0, 0
-    for i, (reading, (refusal, *grid, shown, _)) in enumerate(zip(readings, channels(command, readings))):
+    for i, (reading, (refusal, *grid, shown, _, _, _, _)) in enumerate(zip(readings, channels(command, readings))):
         if refusal or grid != [on_grid(x, steps) for x, steps in zip(reading, STEPS)]:
             wrong.append(f"{place(reading)} is refused or put elsewhere on the grid")
             continue
@@ -302,7 +302,7 @@ def main():
         f" {100 * over / UNIFORM:.1f} % of those drawn evenly are over {PROVED}"
     )
     far_at = tuple(to_float(x) for x in FAR_EXAMPLE)
-    refusal, *_, shown, _ = channels(command, [far_at])[0]
+    refusal, _, _, _, shown, *_ = channels(command, [far_at])[0]
     low, high = exactly(*far_at)
     if refusal or not Fraction(13, 10_000) < shown / Fraction(1_000) - high <= shown / Fraction(1_000) - low <= Fraction(14, 10_000):
         wrong.append(f"the far reading is not so: refusal {refusal}, density {shown}, formula {float(low)} to {float(high)}")

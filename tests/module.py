@@ -3,8 +3,9 @@
 
     python3 tests/module.py
 
-Every macro and every declaration of the header, every refusal in words, every call; what is said of a library that is missing, cannot be
-loaded or is of another version. A machine that is not x86-64 cannot load the library: there capi/try alone makes the calls.
+Every macro and every declaration of the header, every refusal in words, every call; remarks against exact fractions; what is said of a library
+that is missing, cannot be loaded or is of another version. A machine that is not x86-64 cannot load the library: there capi/try alone makes the
+calls, and here a channel's places are tried with a call that says what it is told.
 """
 import ctypes
 import importlib.util
@@ -14,9 +15,11 @@ import re
 import shutil
 import sys
 import tempfile
-from ctypes import POINTER, c_char_p, c_float, c_int64, c_size_t, c_uint32, c_uint64
-from math import isqrt
+from ctypes import CFUNCTYPE, POINTER, c_char_p, c_float, c_int64, c_size_t, c_uint32, c_uint64
+from fractions import Fraction
+from math import floor, isqrt
 from pathlib import Path
+from types import SimpleNamespace
 from unittest import mock
 
 ROOT = Path(__file__).resolve().parent.parent
@@ -28,7 +31,8 @@ FORMAT = (ROOT / "docs" / "FORMAT.md").read_text("utf-8")
 
 sys.path.insert(0, str(MODULE.parent))
 import warpsorrel  # noqa: E402
-from warpsorrel import Channel, Co2, Co2Refusal, Kind, LibraryError, Needle, Pair, Panel, Refusal, Report, Root, Side, Written  # noqa: E402
+from warpsorrel import Channel, Co2, Co2Refusal, Kind, LibraryError, Needle, Pair, Panel, Refusal, Remark, Remarks  # noqa: E402
+from warpsorrel import Report, Root, Side, Written  # noqa: E402
 
 NOTHING = "nothing raised"
 held, wrong = 0, []
@@ -83,6 +87,10 @@ def words():
     hold("what is true", [Refusal.NONE, Co2Refusal.NONE], [r for r in (*Refusal, *Co2Refusal) if not r])
     hold("the words of every refusal of ln K0", {0: "not refused", **CO2_WORDS}, {int(r): r.reason for r in Co2Refusal})
     hold("the names of a ln K0's", [r.name for r in Co2Refusal], [Refusal(r).name for r in Co2Refusal])
+    hold("the words of the remarks", {1: "below", 2: "on", 3: "above"}, {int(r): r.word for r in Remark})
+    hold("the remarks' places", ("salinity", "temperature", "pressure"), Remarks._fields)
+    public = [name for name, what in vars(warpsorrel).items() if getattr(what, "__module__", "") == "warpsorrel" and name[0] != "_"]
+    hold("the names that are given", sorted(["VERSION", "LINE", "PAGE", "Stream", *public]), sorted(warpsorrel.__all__))
 
 
 # ---- the header, the module and FORMAT
@@ -96,6 +104,10 @@ def macros():
     hold("the header's refusals are the module's", {r.name: int(r) for r in Refusal if r and not r.side}, refused)
     sizes = {name: found.pop(name) for name in ("VERSION", "LINE", "PAGE")}
     hold("the header's sizes are the module's", {name: getattr(warpsorrel, name) for name in sizes}, sizes)
+    remarks = {name: found.pop(name) for name in ("BELOW", "ON", "ABOVE")}
+    hold("the header's remarks are the module's", {r.name: int(r) for r in Remark}, remarks)
+    signed = re.findall(r"^#define WARPSORREL_(\w+) \d+ +/\* (\w+) its grid point \*/$", HEADER, re.M)  # no u: they stand in an int64_t
+    hold("the header's words of them are the module's", [(r.name, r.word) for r in Remark], signed)
     hold("the header's kinds are the module's", {k.name: int(k) for k in Kind}, found)
     beside = dict(re.findall(r"^#define WARPSORREL_REFUSED_(\w+) \d+u +/\* (.+) \*/$", HEADER, re.M))
     words = {name: Refusal[name].reason for name in refused}
@@ -139,12 +151,12 @@ def format_page():
 
 
 def same(what, expected, got):
-    """Equal, and of the types that the module says: a Refusal is no bare number."""
+    """Equal, and of the types that the module says: a Refusal is no bare number, a Side no bare tuple."""
     hold(what, (expected, types_in(expected)), (got, types_in(got)))
 
 
 def types_in(answer):
-    return [types_in(part) for part in answer] if isinstance(answer, (tuple, list)) else type(answer)
+    return (type(answer), *map(types_in, answer)) if isinstance(answer, (tuple, list)) else type(answer)
 
 
 def paper(sigma):
@@ -156,9 +168,16 @@ def paper(sigma):
     return [Root(Refusal.NONE, root, 4**j // 4, n - known * known, known << j) for j, known in found]
 
 
+def raw(panel, report):
+    """What a channel's call itself writes, into nine numbers of which it is lent eight."""
+    lent = (c_int64 * 9)(*[7] * 9)
+    panel._calls.channel(*warpsorrel._parts(report), (c_int64 * 8).from_buffer(lent))
+    return list(lent)
+
+
 def answers(panel):
     none, fjord, deep, brine = Report.missing(), Report.surface(28.5, 12.25), Report.deep(34.25, 7.5, 4), Report.deep(42.25, 7.5, 4)
-    same("version", 2, panel.version)
+    same("version", 3, panel.version)
     same("path", str(LIBRARY), panel.path)
     same("refusal", [Refusal.NONE, Refusal.SALINITY], [panel.refusal(35_000, 25_000, 100_000), panel.refusal(42_001, 25_000, 100_000)])
     same("density", 1_062_538, panel.density(35_000, 25_000, 100_000))
@@ -175,7 +194,8 @@ def answers(panel):
         same(f"lines of {sigma}", paper(sigma), panel.root_lines(sigma))
         same(f"each line of {sigma}", paper(sigma), [panel.root(sigma, trials) for trials in range(len(paper(sigma)))])
     same("how many lines", [1, 10, 11, 12, 16, 17, 17], [len(panel.root_lines(sigma)) for sigma in (0, 1, 10, 11, 10_737, 10_738, 42_000)])
-    same("channel", Channel(Refusal.NONE, 34_250, 7_500, 400, 1_026_941, 2_242_612), panel.channel(deep))
+    on = Remarks(Remark.ON, Remark.ON, Remark.ON)
+    same("channel", Channel(Refusal.NONE, 34_250, 7_500, 400, 1_026_941, 2_242_612, on), panel.channel(deep))
     same("co2", [Co2(Co2Refusal.NONE, -3_162_245), Co2(Co2Refusal.NONE, -3_037_603)], [panel.co2(fjord), panel.co2(deep)])
     same("co2, the handbook's water", Co2(Co2Refusal.NONE, -3_561_652), panel.co2(Report.surface(35, 25)))
     same("co2, from minus zero to 40 degrees C", [-2_556_496, -3_920_767], [panel.co2(Report.surface(s, t)).value for s, t in ((0, -0.0), (42, 40))])
@@ -205,6 +225,8 @@ def answers(panel):
     for number, report in enumerate(reports, 1):
         refused = [panel.channel(report).refusal, panel.needle(report, none).refusal, panel.needle(deep, report).refusal]
         same(f"refusal {number}", [Refusal(number), Refusal(100 + number), Refusal(200 + number)], refused)
+        same(f"the channel of refusal {number}", Channel(Refusal(number), 0, 0, 0, 0, 0, None), panel.channel(report))
+        hold(f"the numbers of refusal {number}", [0] * 8 + [7], raw(panel, report))
         of_co2 = panel.co2(report)
         same(f"refusal {number} of ln K0", Co2(Co2Refusal(0), -2_953_995) if number == 5 else Co2(Co2Refusal(number), 0), of_co2)
     for pressure in (float("nan"), float("inf"), -1, 1_001, 1e39):
@@ -250,15 +272,73 @@ def faults(panel):
         hold(what, False, raised(TypeError, call).startswith(NOTHING))  # in words of Python's own
 
 
+# ---- remarks
+
+
+def told(refusal, *numbers):
+    """What the module makes of a channel if the library answers this. No library is needed."""
+
+    @CFUNCTYPE(*warpsorrel._CALLS["channel"])
+    def channel(kind, salinity, temperature, pressure, out):
+        out.contents[:] = numbers
+        return refusal
+
+    panel = Panel.__new__(Panel)
+    panel._calls = SimpleNamespace(channel=channel)
+    return panel.channel(Report.deep(35, 5, 0))
+
+
+def channel_places():
+    below, on, above = Remark.BELOW, Remark.ON, Remark.ABOVE
+    for numbers, remarks in (((1, 2, 3), (below, on, above)), ((3, 1, 2), (above, below, on)), ((2, 3, 1), (on, above, below))):
+        same(f"remarks {numbers}", Channel(Refusal.NONE, 11, -12, 13, 14, 15, Remarks(*remarks)), told(0, 11, -12, 13, 14, 15, *numbers))
+    for numbers in ((0, 2, 2), (2, 0, 2), (2, 2, 0), (4, 2, 2), (2, -2, 2)):  # in words of Python's own
+        hold(f"no remarks {numbers}", False, raised(ValueError, lambda: told(0, 11, -12, 13, 14, 15, *numbers)).startswith(NOTHING))
+    for number in WORDS:
+        same(f"refusal {number} has no remarks", Channel(Refusal(number), 0, 0, 0, 0, 0, None), told(number, *[0] * 8))
+
+
+def placed(number, steps):
+    """The grid number of a 32-bit float, to the nearest, halves upward, and its remark: in exact fractions."""
+    exact = Fraction(c_float(number).value) * steps
+    grid = floor(exact + Fraction(1, 2))
+    return grid, Remark(2 + (exact > grid) - (exact < grid))
+
+
+def off_grid(panel):
+    below, on, above = Remark.BELOW, Remark.ON, Remark.ABOVE
+    for numbers, known in (
+        ((34.25, 7.5, 4), (on, on, on)),
+        ((42, -2, 1_000), (on, on, on)),
+        ((-0.0, -0.0, -0.0), (on, on, on)),
+        ((35, 5.1, 0.004), (on, below, above)),
+        ((5.1, 33.9, 35), (below, above, on)),
+        ((33.9, -1.1, 0.4), (above, below, above)),
+        ((34.0625, -1.0625, 4.125), (below, below, below)),  # halves
+        ((34.062496, -1.0625001, 4.1249995), (above, above, above)),  # the floats before them
+        ((41.999996, -1.9999999, 999.99994), (below, above, below)),  # the last floats before the ends
+        ((1e-45, -1e-45, 1e-45), (above, below, above)),  # the least floats
+    ):
+        (sigma, tau, pi), remarks = zip(*map(placed, numbers, (1_000, 1_000, 100)))
+        same(f"remarks of {numbers} in exact fractions", known, remarks)
+        deep, surface = panel.channel(Report.deep(*numbers)), panel.channel(Report.surface(*numbers[:2]))
+        same(f"remarks of {numbers}", (Refusal.NONE, sigma, tau, pi, Remarks(*remarks)), deep[:4] + deep[6:])
+        same(f"remarks of {numbers[:2]}", (Refusal.NONE, sigma, tau, 0, Remarks(*remarks[:2], on)), surface[:4] + surface[6:])
+        hold(f"the numbers of {numbers}", [*deep[1:6], *map(int, remarks), 7], raw(panel, Report.deep(*numbers)))
+    for pressure in (0, -0.0, 1e-45, 0.004, -0.004, 4, -1, 1_001, 1e39, float("inf"), -float("inf"), float("nan")):
+        surface = panel.channel(Report(Kind.SURFACE, 35, 5.1, pressure))
+        same(f"a surface's pressure of {pressure}", (Refusal.NONE, 0, Remarks(on, below, on)), (surface.refusal, surface.pi, surface.remarks))
+
+
 # ---- libraries
 
 
 def other_versions():
-    with mock.patch.object(warpsorrel, "VERSION", 3):
-        says = f"{LIBRARY} is of version 2, and this module was written for version 3: take both from one copy"
+    with mock.patch.object(warpsorrel, "VERSION", 4):
+        says = f"{LIBRARY} is of version 3, and this module was written for version 4: take both from one copy"
         hold("another version", says, raised(LibraryError, Panel))
     with mock.patch.dict(warpsorrel._CALLS, {"none": (c_uint32,)}):
-        says = f"{LIBRARY} has no call warpsorrel_none: it is older than this module, which was written for version 2, or not Warpsorrel's"
+        says = f"{LIBRARY} has no call warpsorrel_none: it is older than this module, which was written for version 3, or not Warpsorrel's"
         hold("a call too few", says, raised(LibraryError, Panel))
 
 
@@ -306,9 +386,11 @@ def main():
     macros()
     declarations()
     format_page()
+    channel_places()
     places()
     if can_load():
         answers(Panel())
+        off_grid(Panel())
         faults(Panel())
         other_versions()
     for text in wrong:

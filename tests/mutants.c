@@ -39,11 +39,14 @@ static int rounding(unsigned mode) {
     return (_mm_getcsr() >> 13 & 3) == mode;
 }
 
-uint32_t __wrap_warpsorrel_channel(uint32_t kind, float salinity, float temperature, float pressure, int64_t out[5]) {
-    if (has("channel: a denormal salinity flushed")) salinity *= one;
-    if (has("channel: a denormal pressure flushed")) pressure *= one;
-    if (has("channel: the rounding mode changed")) _mm_setcsr(_mm_getcsr() | 0x6000);
-    return __real_warpsorrel_channel(kind, salinity, temperature, pressure, out);
+static uint32_t bits_of(float x) {
+    uint32_t bits;
+    memcpy(&bits, &x, sizeof bits);
+    return bits;
+}
+
+static int is_finite(float x) {
+    return (bits_of(x) >> 23 & 255) != 255;
 }
 
 float __wrap_warpsorrel_recorder(uint32_t shown) {
@@ -52,9 +55,120 @@ float __wrap_warpsorrel_recorder(uint32_t shown) {
     return __real_warpsorrel_recorder(shown);
 }
 
-/* ---- the root: its search on paper once more, with a slip */
+/* ---- channels: refused or not, and the remark of each float, with a slip */
 
-static volatile int past_the_words = 4, before_them = -1; /* unknown to the compiler, which would warn */
+typedef __int128 whole;
+
+static volatile int fifth = 4, ninth = 8, before_them = -1; /* unknown to the compiler, which would warn */
+
+static int64_t seen_from(whole point, whole value) {
+    return value < point ? WARPSORREL_BELOW : value > point ? WARPSORREL_ABOVE : WARPSORREL_ON;
+}
+
+static int64_t seen_in_doubles(double point, double value) {
+    return value < point ? WARPSORREL_BELOW : value > point ? WARPSORREL_ABOVE : WARPSORREL_ON;
+}
+
+/* A float of the ranges in steps, times 2 to the 90; nearer to zero than any test looks it is only kept off it. */
+static whole in_steps(uint32_t bits, int64_t steps) {
+    int exponent = bits >> 23 & 255, up = exponent - 60;
+    whole size = (whole)(bits & 0x7fffff) + (exponent ? 0x800000 : 0);
+    size = up < 0 ? size : size << up;
+    return (bits >> 31 ? -size : size) * steps;
+}
+
+#define STEP ((whole)1 << 90)
+
+/* As right says, or not; number is the float's grid number. */
+static int64_t slipped(int place, float x, int64_t number, int64_t right) {
+    int64_t steps = place == 2 ? 100 : 1000;
+    uint32_t bits = bits_of(x), size = bits & 0x7fffffff;
+    whole point = number * STEP, off = in_steps(bits, steps) - point;
+    int is_negative = bits >> 31, is_denormal = size > 0 && size < 0x800000, is_half = 2 * off == STEP || 2 * off == -STEP;
+    volatile float product = x * (float)steps, nearest = (float)number / (float)steps, moved = x + little;
+    volatile double wide = x;
+    if (has("channel: below and above exchanged")) return 4 - right;
+    if (has("channel: below and above exchanged where a temperature is negative") && is_negative) return 4 - right;
+    if (has("channel: above for all that is off") && right == WARPSORREL_BELOW) return WARPSORREL_ABOVE;
+    if (has("channel: below for all that is off") && right == WARPSORREL_ABOVE) return WARPSORREL_BELOW;
+    if (has("channel: on for everything")) return WARPSORREL_ON;
+    if (has("channel: on within 2^-24 of the grid point") && (off < 0 ? -off : off) < steps * STEP >> 24) return WARPSORREL_ON;
+    if (has("channel: on for the float nearest to the grid point") && x == nearest) return WARPSORREL_ON;
+    if (has("channel: on where the grid number is 0") && number == 0) return WARPSORREL_ON;
+    if (has("channel: above where the grid number is 0") && number == 0 && right == WARPSORREL_BELOW) return WARPSORREL_ABOVE;
+    if (has("channel: never on where the grid number is not 0") && number && right == WARPSORREL_ON) return WARPSORREL_ABOVE;
+    if (has("channel: seen from the float nearest to the grid point")) return seen_in_doubles(nearest, x);
+    if (has("channel: the product rounded to a float")) return seen_in_doubles((double)number, product);
+    if (has("channel: the product in the mode there is")) return seen_in_doubles((double)number, wide * (double)steps);
+    if (has("channel: a temperature rounded in the mode there is") && place == 1 && x > 1) return seen_from(point, in_steps(bits_of(moved), steps));
+    if (has("channel: a salinity seen from the hundredths") && place == 0) return seen_from((number + 5) / 10 * STEP, in_steps(bits, 100));
+    if (has("channel: a pressure seen from the tenths") && place == 2) return seen_from((number + 5) / 10 * STEP, in_steps(bits, 10));
+    if (has("channel: 0 for on") && right == WARPSORREL_ON) return 0;
+    if (has("channel: remarks from 0 on")) return right - 1;
+    if (has("channel: a half above") && is_half) return WARPSORREL_ABOVE;
+    if (has("channel: a half above where a temperature is negative") && is_half && is_negative) return WARPSORREL_ABOVE;
+    if (has("channel: a half on") && is_half) return WARPSORREL_ON;
+    if (has("channel: minus zero below") && bits == 0x80000000) return WARPSORREL_BELOW;
+    if (has("channel: minus zero of a pressure below") && bits == 0x80000000 && place == 2) return WARPSORREL_BELOW;
+    if (has("channel: a denormal on") && is_denormal) return WARPSORREL_ON;
+    if (has("channel: a denormal on where denormals are flushed") && is_denormal && flushing()) return WARPSORREL_ON;
+    if (has("channel: a denormal temperature above") && is_denormal && place == 1) return WARPSORREL_ABOVE;
+    if (has("channel: the least float on") && size == 1) return WARPSORREL_ON;
+    if (has("channel: the least normal float on") && size == 0x800000) return WARPSORREL_ON;
+    return right;
+}
+
+uint32_t __wrap_warpsorrel_channel(uint32_t kind, float salinity, float temperature, float pressure, int64_t out[8]) {
+    int64_t was[8], other[8] = {0};
+    memcpy(was, out, sizeof was);
+    if (has("channel: a denormal salinity flushed")) salinity *= one;
+    if (has("channel: a denormal pressure flushed")) pressure *= one;
+    if (has("channel: the rounding mode changed")) _mm_setcsr(_mm_getcsr() | 0x6000);
+    uint32_t refusal = __real_warpsorrel_channel(kind, salinity, temperature, pressure, out);
+    int is_surface = kind == WARPSORREL_SURFACE;
+    int64_t *remarks = out + 5, right[3] = {out[5], out[6], out[7]};
+
+    /* refused: no remark */
+    if (has("channel: refused, and the remarks not written") && refusal) memcpy(remarks, was + 5, sizeof right);
+    if (has("channel: refused, and on for a remark") && refusal) remarks[0] = remarks[1] = remarks[2] = WARPSORREL_ON;
+    if (has("channel: refused by 5, and the remarks left of salinity and temperature") && refusal == 5) {
+        __real_warpsorrel_channel(WARPSORREL_SURFACE, salinity, temperature, 0, other);
+        memcpy(remarks, other + 5, 2 * sizeof *remarks);
+    }
+    if (has("channel: refused by 4, and the salinity's remark left") && refusal == 4) {
+        __real_warpsorrel_channel(WARPSORREL_SURFACE, salinity, 0, 0, other);
+        remarks[0] = other[5];
+    }
+    if (has("channel: missing, and on for a remark") && refusal == 1) remarks[2] = WARPSORREL_ON;
+
+    /* accepted */
+    if (!refusal) {
+        remarks[0] = slipped(0, salinity, out[0], right[0]);
+        remarks[1] = slipped(1, temperature, out[1], right[1]);
+        if (!is_surface) remarks[2] = slipped(2, pressure, out[2], right[2]);
+    }
+    if (has("channel: a surface's pressure read for its remark") && is_surface && !refusal)
+        remarks[2] = __real_warpsorrel_channel(WARPSORREL_DEEP, salinity, temperature, pressure, other) ? right[2] : other[7];
+    if (has("channel: above for a surface's NaN or infinity") && is_surface && !refusal && !is_finite(pressure)) remarks[2] = WARPSORREL_ABOVE;
+    if (has("channel: 0 for a surface's pressure") && is_surface) remarks[2] = 0;
+    if (has("channel: the pressure's remark not written")) remarks[2] = was[7];
+    if (has("channel: a surface's third remark not written") && is_surface) remarks[2] = was[7];
+    if (has("channel: no remark written")) memcpy(remarks, was + 5, sizeof right);
+    if (has("channel: a remark in 32 bits")) memcpy((uint8_t *)&remarks[1] + 4, (uint8_t *)&was[6] + 4, 4);
+    if (has("channel: the temperature's remark first")) remarks[0] = right[1], remarks[1] = right[0];
+    if (has("channel: the pressure's remark first")) remarks[0] = right[2], remarks[2] = right[0];
+    if (has("channel: the temperature's remark for the pressure's") && !is_surface) remarks[2] = right[1];
+    if (has("channel: the remarks before the density")) {
+        memcpy(other, out, sizeof other);
+        memcpy(out + 3, other + 5, 3 * sizeof *out);
+        memcpy(out + 6, other + 3, 2 * sizeof *out);
+    }
+    if (has("channel: a ninth word")) out[ninth] = 0;
+    if (has("channel: the word before the first")) out[before_them] = 0;
+    return refusal;
+}
+
+/* ---- the root: its search on paper once more, with a slip */
 
 /* The line after so many trials: trial bit, rest, root so far. */
 static void search(uint64_t n, uint32_t trials, uint64_t line[3]) {
@@ -126,14 +240,12 @@ uint32_t __wrap_warpsorrel_root(int64_t sigma, uint32_t trials, uint64_t out[4])
     if (has("root: the root for the root so far")) out[3] = out[0];
     if (has("root: the root so far without its noughts")) out[3] /= out[1] ? 4 * out[1] : 1;
     if (has("root: the last word not written")) out[3] = was[3];
-    if (has("root: a fifth word")) out[past_the_words] = 0;
+    if (has("root: a fifth word")) out[fifth] = 0;
     if (has("root: the word before the first")) out[before_them] = 0;
     return refusal;
 }
 
 /* ---- ln K0: by the definition once more, with a slip */
-
-typedef __int128 whole;
 
 static whole over(whole a, whole b) {
     whole q = a / b;
@@ -167,22 +279,12 @@ static int64_t ln_k0(int64_t sigma, int64_t tau) {
     return (int64_t)over(fine + 50000, 100000);
 }
 
-static uint32_t bits_of(float x) {
-    uint32_t bits;
-    memcpy(&bits, &x, sizeof bits);
-    return bits;
-}
-
-static int is_finite(float x) {
-    return (bits_of(x) >> 23 & 255) != 255;
-}
-
 static int outside(float x, float most) {
     return is_finite(x) && !(x >= 0 && x <= most);
 }
 
 uint32_t __wrap_warpsorrel_co2(uint32_t kind, float salinity, float temperature, float pressure, int64_t *out) {
-    int64_t was = *out, at[5];
+    int64_t was = *out, at[8];
     if (has("co2: a denormal salinity flushed")) salinity *= one;
     if (has("co2: a denormal temperature flushed")) temperature *= one;
     if (has("co2: the temperature rounded in the mode there is") && temperature > 1) temperature = temperature + little;
@@ -224,22 +326,22 @@ uint32_t __wrap_warpsorrel_co2(uint32_t kind, float salinity, float temperature,
     return refusal;
 }
 
-/* ---- needles: sigma, tau, pi, density and bulk modulus of two accepted readings */
+/* ---- needles: sigma, tau, pi and density of two accepted readings come first in what a channel has */
 
-static int64_t needle_at(const int64_t l[5], const int64_t r[5], int64_t pi) {
+static int64_t needle_at(const int64_t l[8], const int64_t r[8], int64_t pi) {
     return (int64_t)warpsorrel_density(r[0], r[1], pi) - (int64_t)warpsorrel_density(l[0], l[1], pi);
 }
 
-static int64_t lesser(const int64_t l[5], const int64_t r[5]) {
+static int64_t lesser(const int64_t l[8], const int64_t r[8]) {
     return l[2] < r[2] ? l[2] : r[2];
 }
 
-static int64_t greater(const int64_t l[5], const int64_t r[5]) {
+static int64_t greater(const int64_t l[8], const int64_t r[8]) {
     return l[2] > r[2] ? l[2] : r[2];
 }
 
 uint32_t __wrap_warpsorrel_needle(uint32_t lk, float ls, float lt, float lp, uint32_t rk, float rs, float rt, float rp, int64_t out[3]) {
-    int64_t l[5], r[5];
+    int64_t l[8], r[8];
     if (has("needle: the right's temperature rounded in the mode there is") && (rt > 1 || rt < -1)) rt = rt + little;
     uint32_t refusal = __real_warpsorrel_needle(lk, ls, lt, lp, rk, rs, rt, rp, out);
     if (refusal) return refusal;
@@ -301,7 +403,7 @@ uint32_t __wrap_warpsorrel_line(uint32_t number, uint32_t lk, float ls, float lt
     if (has("line: a wrong length refused by 6") && lk == WARPSORREL_LENGTH) lk = WARPSORREL_CUT;
     if (has("line: a surface's pressure read") && rk == WARPSORREL_SURFACE && rp != rp) rk = WARPSORREL_DEEP;
     uint32_t refusal = __real_warpsorrel_line(number, lk, ls, lt, lp, rk, rs, rt, rp, out, room, count);
-    int64_t l[5], r[5];
+    int64_t l[8], r[8];
     if (!refusal && !__real_warpsorrel_channel(lk, ls, lt, lp, l) && !__real_warpsorrel_channel(rk, rs, rt, rp, r)) {
         char text[64];
         long left = l[3], right = r[3], is = needle_at(l, r, greater(l, r)), needle = is;
@@ -321,8 +423,6 @@ uint32_t __wrap_warpsorrel_line(uint32_t number, uint32_t lk, float ls, float lt
 }
 
 /* ---- streams */
-
-static volatile size_t eight = 8; /* unknown to the compiler, which would warn */
 
 size_t __wrap_warpsorrel_pairs(const uint8_t *stream, size_t length) {
     size_t count = __real_warpsorrel_pairs(stream, length);
@@ -347,7 +447,7 @@ uint32_t __wrap_warpsorrel_pair(const uint8_t *stream, size_t length, size_t bef
     if (has("pair: the needle of right and left")) out[7] = -out[7];
     if (has("pair: the difference of the printed densities") && !out[6]) out[7] = out[4] - out[1];
     if (has("pair: none, and the words not written") && !there) memcpy(out, was, sizeof was);
-    if (has("pair: a ninth word")) out[eight] = 0;
+    if (has("pair: a ninth word")) out[ninth] = 0;
     if (has("pair: the stream changed") && length) ((uint8_t *)stream)[length / 2] ^= 1;
     if (has("pair: a byte past the stream read") && length) out[0] += ((volatile const uint8_t *)stream)[length] & 0;
     return there;

@@ -12,7 +12,7 @@ import sys
 from concurrent.futures import ThreadPoolExecutor
 from pathlib import Path
 
-from calls import ENTRIES, co2_calls, differences, line_calls, long_streams, mode_calls, mode_reports, root_calls, stream_calls
+from calls import ENTRIES, channel_calls, co2_calls, differences, line_calls, long_streams, mode_calls, mode_reports, root_calls, stream_calls
 from streams import LONGEST, depths, hard_streams
 
 WORKERS = 2
@@ -23,6 +23,7 @@ def some_batches():
     rng = random.Random(60)
     short = [stream for stream in dict.fromkeys(hard_streams()) if len(stream) < 2_000]
     some = rng.sample(short, 60) + [*depths(), LONGEST, LONGEST + b"\0"] + list(long_streams(rng))[-10:]
+    yield list(channel_calls(rng))
     yield list(stream_calls(some))
     yield list(line_calls(ENTRIES[::2] + ENTRIES[-8:]))
     yield list(co2_calls(rng))

@@ -176,10 +176,10 @@ def report(reading):
 
 
 def channels(command, readings):
-    """What the panel says of each reading as sent: refusal, grid numbers, shown density, bulk modulus."""
+    """What the panel says of each reading as sent: refusal, grid numbers, shown density, bulk modulus, remarks."""
     answers = subprocess.run(command, input=b"".join(b"c" + report(r) for r in readings), stdout=subprocess.PIPE, check=True).stdout
-    assert len(answers) == 48 * len(readings)
-    return list(struct.iter_unpack("<6q", answers))
+    assert len(answers) == 72 * len(readings)
+    return list(struct.iter_unpack("<9q", answers))
 
 
 def needles(command, pairs):
@@ -414,7 +414,7 @@ def as_sent(command, rng, readings):
     """Lines for what is wrong, and what was met."""
     wrong, largest, largest_needle = [], (0, 1), (0, 1)
     found = sent_readings(rng, readings)
-    for reading, (refusal, *grid, shown, _) in zip(found, channels(command, found)):
+    for reading, (refusal, *grid, shown, _, _, _, _) in zip(found, channels(command, found)):
         if refusal or grid != [put(x, place) for place, x in enumerate((*reading[:2], pressure(reading)))]:
             wrong.append(f"sent {reading}: refused by {refusal}, or put on {grid}")
         for by_formula in sent_densities(reading, pressure(reading)):

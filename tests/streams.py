@@ -1,10 +1,11 @@
-"""Streams that are hard on a reader: every cut, kind and length, bad floats in every place, knife edges of the density and of ln K0, waters at
-two depths, seeded random ones."""
+"""Streams that are hard on a reader: every cut, kind and length, bad floats in every place, floats beside their grid points and on them, knife
+edges of the density and of ln K0, waters at two depths, seeded random ones."""
 import random
 import struct
+from itertools import product
 
 import model
-from model import EXAMPLE, LONGEST_PAGE, QUANTITIES, bits_of, channel, co2, needle, needle_at, page, pairs
+from model import ABOVE, BELOW, EXAMPLE, LONGEST_PAGE, ON, QUANTITIES, bits_of, channel, co2, needle, needle_at, page, pairs
 
 RANDOM_STREAMS = 1_300
 
@@ -56,6 +57,24 @@ def halves(place, rng):
     exact = rng.sample([n / parts for n in range(low * parts + 1, high * parts, 2)], 300)
     near = [n / unit + 0.5 / unit for n in [low * unit, high * unit - 1] + rng.sample(range(low * unit, high * unit), 300)]
     return [bits_of(x) for x in exact] + [b for x in near for b in around(bits_of(x))]
+
+
+def points(place, rng):
+    """Floats whose remark hangs on the grid point: points that are floats, and the nearest to others, with their neighbours."""
+    low, high, unit, _ = QUANTITIES[place]
+    parts = 8 if unit == 1_000 else 4  # n/1,000 is a float only as a multiple of 1/8, n/100 of 1/4
+    exact = [n / parts for n in rng.sample(range(low * parts, high * parts + 1), 60)]
+    near = [n / unit for n in [low * unit + 1, -1, 1, high * unit - 1] + rng.sample(range(low * unit, high * unit), 120)]
+    return [b for x in exact + near for b in around(bits_of(x))]
+
+
+# Below its grid point, on it and above it, in each place; of the temperatures some below 0, a half among them, which is below.
+REMARKED = [around(PLAIN[0]), [*around(PLAIN[1]), *around(bits_of(-1)), *around(bits_of(-0.0625))], around(PLAIN[2])]
+
+
+def remarked_reports():
+    """Each with each, deep and at the surface, where the pressure is not read."""
+    return [(kind, *floats) for kind in (1, 2) for floats in product(*REMARKED)]
 
 
 def with_place(place, bits, kind=1):
@@ -146,7 +165,8 @@ def float_streams(rng):
         for kind in (1, 2):
             if kind == 1 or place < 2:
                 yield from both_sides([with_place(place, b, kind) for b in every])
-        yield from cut_to_fit([with_place(place, b) for b in halves(place, rng)])
+        yield from cut_to_fit([with_place(place, b) for b in halves(place, rng) + points(place, rng)])
+    yield from both_sides(dict.fromkeys(record_of(*report) for report in remarked_reports()))
     mixed = [deep(*(rng.choice(specials(i)) for i in range(3))) for _ in range(3_000)]
     yield from cut_to_fit(mixed)
     # each special alone, against a good reading
@@ -353,6 +373,17 @@ WRONG_NEEDLES = {
 
 # What a reading is refused by, for its density and for its ln K0: 0 is for not at all.
 BOTH_REFUSALS = {(n, n) for n in (0, 1, 2, 3, 4, 6, 7, 8)} | {(0, 4), (2, 0), (2, 3), (2, 4), (5, 0), (5, 4)}
+
+
+def covered_remarks(every):
+    """All remarks, each with each, are among what is tried, on either side; at the surface the pressure's is always the same. Both signs of
+    a temperature have each."""
+    some = [(side, report) for stream in every if len(stream) <= 60_000 for pair in model.reports(stream) for side, report in enumerate(pair)]
+    wanted = {(kind, *remarks) for kind in (1, 2) for remarks in product((BELOW, ON, ABOVE), repeat=3) if kind == 1 or remarks[2] == ON}
+    for side in (0, 1):
+        here = {report for its, report in some if its == side and not channel(*report).refusal}
+        assert {(report[0], *channel(*report).remarks) for report in here} == wanted
+        assert {(report[2] >> 31, channel(*report).remarks[1]) for report in here} == set(product((0, 1), (BELOW, ON, ABOVE)))
 
 
 def covered_co2(every):

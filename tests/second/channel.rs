@@ -1,4 +1,4 @@
-//! Channels from floats: the examples of SPEC, limits, halves of the grid, bad values each with each, random floats.
+//! Channels from floats: the examples of SPEC, limits, halves of the grid, bad values each with each, random floats. remarks.rs has more of them.
 
 use crate::floats::{Float, INFINITE};
 use crate::panel::{long, Panel};
@@ -14,17 +14,17 @@ pub struct Report {
     pub floats: [Float; 3],
 }
 
-/// A refusal's number, or the three grid numbers, the shown density and the bulk modulus.
-pub type Channel = Result<[i64; 5], u32>;
+/// A refusal's number, or the three grid numbers, the shown density, the bulk modulus and the remarks of salinity, temperature and pressure.
+pub type Channel = Result<[i64; 8], u32>;
 
-struct Quantity {
-    low: i64,
-    high: i64,
-    per_unit: i64,
-    refusal: u32,
+pub struct Quantity {
+    pub low: i64,
+    pub high: i64,
+    pub per_unit: i64,
+    pub refusal: u32,
 }
 
-const QUANTITIES: [Quantity; 3] = [
+pub const QUANTITIES: [Quantity; 3] = [
     Quantity { low: 0, high: 42, per_unit: 1_000, refusal: 3 },
     Quantity { low: -2, high: 40, per_unit: 1_000, refusal: 4 },
     Quantity { low: 0, high: 1_000, per_unit: 100, refusal: 5 },
@@ -40,15 +40,17 @@ pub fn channel(formula: &Formula, report: &Report) -> Channel {
     if floats.iter().any(|f| f.exact().is_none()) {
         return Err(2);
     }
-    let mut at = [0; 3];
+    // a pressure that is not read is 0, and on the grid
+    let (mut at, mut remarks) = ([0; 3], [2; 3]);
     for (i, (f, q)) in floats.iter().zip(&QUANTITIES).enumerate() {
         if !f.within(q.low, q.high) {
             return Err(q.refusal);
         }
         at[i] = f.grid(q.per_unit);
+        remarks[i] = f.remark(q.per_unit, at[i]);
     }
     let (density, bulk) = formula.water(at[0], at[1], at[2])?;
-    Ok([at[0], at[1], at[2], density.into(), bulk.into()])
+    Ok([at[0], at[1], at[2], density.into(), bulk.into(), remarks[0], remarks[1], remarks[2]])
 }
 
 impl Report {
@@ -78,7 +80,7 @@ impl Report {
 }
 
 /// A float of the place's range, all parts of the range alike.
-fn in_range(place: usize, random: &mut Random) -> Float {
+pub fn in_range(place: usize, random: &mut Random) -> Float {
     let q = &QUANTITIES[place];
     Float::nearest(random.between(q.low << 40, q.high << 40).into(), 1 << 40)
 }
@@ -92,17 +94,17 @@ fn put_on(place: usize, number: i64, random: &mut Random) -> Float {
     float
 }
 
-fn request(report: &Report, bytes: &mut Vec<u8>) {
+pub fn request(report: &Report, bytes: &mut Vec<u8>) {
     bytes.push(b'c');
     report.put(bytes);
 }
 
-/// The panel's answer; a refusal comes with five noughts.
-fn answer(bytes: [u8; 48]) -> Channel {
-    let five = [1, 2, 3, 4, 5].map(|i| long(&bytes, i));
+/// The panel's answer; a refusal comes with eight noughts.
+pub fn answer(bytes: [u8; 72]) -> Channel {
+    let eight = [1, 2, 3, 4, 5, 6, 7, 8].map(|i| long(&bytes, i));
     match long(&bytes, 0) {
-        0 => Ok(five),
-        number if five == [0; 5] => Err(number.try_into().unwrap()),
+        0 => Ok(eight),
+        number if eight == [0; 8] => Err(number.try_into().unwrap()),
         _ => Err(u32::MAX),
     }
 }
@@ -118,43 +120,54 @@ fn compare(panel: &Panel, formula: &Formula, seen: &mut BTreeSet<u32>, name: &'s
     tally
 }
 
-/// What SPEC says in so many words: grid numbers or a refusal. The floats are patterns: 35, 5 and 100 at first.
-fn examples() -> Vec<(Report, Result<[i64; 3], u32>)> {
+/// What SPEC says in so many words: grid numbers and remarks, or a refusal. The floats are patterns: 35, 5 and 100 at first.
+fn examples() -> Vec<(Report, Result<[i64; 6], u32>)> {
+    const ON: [i64; 3] = [2; 3];
+    let at = |numbers: [i64; 3], remarks: [i64; 3]| Ok([numbers[0], numbers[1], numbers[2], remarks[0], remarks[1], remarks[2]]);
     let plain = Report { kind: 1, floats: [Float(0x420c_0000), Float(0x40a0_0000), Float(0x42c8_0000)] };
     let with = |place, bits| plain.with(place, Float(bits));
     let (minus_zero, nan, signalling, infinite) = (0x8000_0000, 0x7fc0_0000, 0x7f80_0001, INFINITE);
     vec![
-        (plain, Ok([35_000, 5_000, 10_000])),
-        (Report { kind: 2, ..plain }, Ok([35_000, 5_000, 0])),
+        (plain, at([35_000, 5_000, 10_000], ON)),
+        (Report { kind: 2, ..plain }, at([35_000, 5_000, 0], ON)),
         (Report { kind: 3, ..plain }, Err(1)),
         (Report { kind: 0, ..plain }, Err(7)),
         (Report { kind: 4, ..plain }, Err(7)),
-        // 0.0625 and -0.0625
-        (with(1, 0x3d80_0000), Ok([35_000, 63, 10_000])),
-        (with(1, 0xbd80_0000), Ok([35_000, -62, 10_000])),
+        // 0.0625 and -0.0625: halves go up, and are below then
+        (with(1, 0x3d80_0000), at([35_000, 63, 10_000], [2, 1, 2])),
+        (with(1, 0xbd80_0000), at([35_000, -62, 10_000], [2, 1, 2])),
+        // the floats nearest to 0.001 and to -0.001, which are farther from zero; to 0.01 of a bar, which is nearer
+        (with(0, 0x3a83_126f), at([1, 5_000, 10_000], [3, 2, 2])),
+        (with(1, 0x3a83_126f), at([35_000, 1, 10_000], [2, 3, 2])),
+        (with(1, 0xba83_126f), at([35_000, -1, 10_000], [2, 1, 2])),
+        (with(2, 0x3c23_d70a), at([35_000, 5_000, 1], [2, 2, 1])),
+        (Report { kind: 2, ..with(2, 0x3c23_d70a) }, at([35_000, 5_000, 0], ON)),
         // 42 and the next, -2 and the next below, 40 and the next, 1,000 and the next
-        (with(0, 0x4228_0000), Ok([42_000, 5_000, 10_000])),
+        (with(0, 0x4228_0000), at([42_000, 5_000, 10_000], ON)),
         (with(0, 0x4228_0001), Err(3)),
-        (with(1, 0xc000_0000), Ok([35_000, -2_000, 10_000])),
+        (with(1, 0xc000_0000), at([35_000, -2_000, 10_000], ON)),
         (with(1, 0xc000_0001), Err(4)),
-        (with(1, 0x4220_0000), Ok([35_000, 40_000, 10_000])),
+        (with(1, 0x4220_0000), at([35_000, 40_000, 10_000], ON)),
         (with(1, 0x4220_0001), Err(4)),
-        (with(2, 0x447a_0000), Ok([35_000, 5_000, 100_000])),
+        (with(2, 0x447a_0000), at([35_000, 5_000, 100_000], ON)),
         (with(2, 0x447a_0001), Err(5)),
         // 42.0001 would be 42,000 if it were rounded first
         (with(0, 0x4228_001a), Err(3)),
         // zero from both sides; the smallest float
-        (with(0, minus_zero), Ok([0, 5_000, 10_000])),
-        (with(2, minus_zero), Ok([35_000, 5_000, 0])),
-        (with(0, 1), Ok([0, 5_000, 10_000])),
+        (with(0, minus_zero), at([0, 5_000, 10_000], ON)),
+        (with(1, minus_zero), at([35_000, 0, 10_000], ON)),
+        (with(2, minus_zero), at([35_000, 5_000, 0], ON)),
+        (with(0, 1), at([0, 5_000, 10_000], [3, 2, 2])),
+        (with(1, 1), at([35_000, 0, 10_000], [2, 3, 2])),
+        (with(2, 1), at([35_000, 5_000, 0], [2, 2, 3])),
         (with(0, minus_zero + 1), Err(3)),
         (with(2, minus_zero + 1), Err(5)),
-        (with(1, minus_zero + 1), Ok([35_000, 0, 10_000])),
+        (with(1, minus_zero + 1), at([35_000, 0, 10_000], [2, 1, 2])),
         // a NaN anywhere goes before any range; a float that is not read does not count
         (with(0, 0x4228_0001).with(1, Float(nan)), Err(2)),
         (with(0, 0x4228_0001).with(2, Float(signalling)), Err(2)),
         (with(0, infinite).with(1, Float(0xc000_0001)), Err(2)),
-        (Report { kind: 2, ..with(2, nan) }, Ok([35_000, 5_000, 0])),
+        (Report { kind: 2, ..with(2, nan) }, at([35_000, 5_000, 0], ON)),
         (Report { kind: 3, ..with(0, nan) }, Err(1)),
         (Report { kind: 9, ..with(0, nan) }, Err(7)),
     ]
@@ -162,10 +175,10 @@ fn examples() -> Vec<(Report, Result<[i64; 3], u32>)> {
 
 fn paper(panel: &Panel, formula: &Formula) -> Tally {
     let mut tally = Tally::new("SPEC's examples of floats");
-    let grid = |c: Channel| c.map(|five| [five[0], five[1], five[2]]);
+    let placed = |c: Channel| c.map(|[s, t, p, _, _, of_s, of_t, of_p]| [s, t, p, of_s, of_t, of_p]);
     panel.ask(&examples(), |x, bytes| request(&x.0, bytes), |(report, said), bytes| {
-        tally.same(grid(answer(bytes)), *said, report);
-        tally.same(grid(channel(formula, report)), *said, report);
+        tally.same(placed(answer(bytes)), *said, report);
+        tally.same(placed(channel(formula, report)), *said, report);
     });
     tally
 }
@@ -251,7 +264,7 @@ fn anywhere(place: usize) -> Vec<Report> {
 }
 
 /// A sort of reports: its name, and what makes them.
-type Sort = (&'static str, fn() -> Vec<Report>);
+pub type Sort = (&'static str, fn() -> Vec<Report>);
 
 /// The sorts of reports that every answer to one report is held to.
 pub fn sorts() -> [Sort; 7] {

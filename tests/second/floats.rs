@@ -39,6 +39,12 @@ impl Float {
         ((2 * per_unit as i128 * value + (1 << shift)) >> (shift + 1)).try_into().expect("near the ranges")
     }
 
+    /// The value times `per_unit` seen from a grid number: below it (1), on it (2) or above it (3).
+    pub fn remark(self, per_unit: i64, number: i64) -> i64 {
+        let (value, shift) = self.exact().expect("finite");
+        2 + (per_unit as i128 * value).cmp(&((number as i128) << shift)) as i64
+    }
+
     /// The float nearest to a fraction, of two equally near the one with the even last bit.
     pub fn nearest(numerator: i128, denominator: i128) -> Float {
         let (mut n, mut d, mut exponent) = (numerator.abs(), denominator, 0);

@@ -9,6 +9,7 @@ mod panel;
 mod random;
 mod recipe;
 mod recorder;
+mod remarks;
 mod root;
 
 /// What was tried and what came out wrong.
@@ -41,6 +42,7 @@ fn main() {
     let mut tallies = grid::all(&panel, &formula);
     tallies.extend(root::all(&panel));
     tallies.extend(channel::all(&panel, &formula));
+    tallies.extend(remarks::all(&panel, &formula));
     tallies.extend(co2::all(&panel));
     tallies.extend(needle::all(&panel, &formula));
     tallies.extend(recorder::all(&panel));

@@ -19,14 +19,14 @@ fn shown(formula: &Formula, [s, t]: [i64; 2], p: i64) -> i64 {
 }
 
 /// Right minus left, both waters at one pressure.
-fn difference(formula: &Formula, left: &[i64; 5], right: &[i64; 5], p: i64) -> i64 {
-    let at = |[s, t, own, density, _]: [i64; 5]| if own == p { density } else { shown(formula, [s, t], p) };
+fn difference(formula: &Formula, left: &[i64; 8], right: &[i64; 8], p: i64) -> i64 {
+    let at = |[s, t, own, density, ..]: [i64; 8]| if own == p { density } else { shown(formula, [s, t], p) };
     at(*right) - at(*left)
 }
 
 /// The densities stand at their own pressures, the needle at the greater of the two.
 fn expected(formula: &Formula, left: &Channel, right: &Channel) -> Reply {
-    let density = |c: &Channel| c.map_or(0, |five| five[3]);
+    let density = |c: &Channel| c.map_or(0, |eight| eight[3]);
     let (l, r) = (density(left), density(right));
     match (left, right) {
         (Err(n), _) => [100 + i64::from(*n), l, r, 0],
@@ -141,7 +141,7 @@ fn turning(formula: &Formula, random: &mut Random) -> Pair {
 }
 
 /// The sorts of needles that have to be among those tried: each tells a wrong needle from the right one, or a law speaks of it.
-fn sorts(formula: &Formula, pair: &Pair, left: &[i64; 5], right: &[i64; 5], needle: i64) -> [(&'static str, bool); 14] {
+fn sorts(formula: &Formula, pair: &Pair, left: &[i64; 8], right: &[i64; 8], needle: i64) -> [(&'static str, bool); 14] {
     let printed = right[3] - left[3];
     let at_lesser = difference(formula, left, right, left[2].min(right[2]));
     let (at_left, at_right) = if left[2] < right[2] { (at_lesser, needle) } else { (needle, at_lesser) };
