@@ -1,5 +1,5 @@
 //! Remarks: on which side of its grid point each float lies. They are judged by what they mean, the exact value in steps beside the panel's own grid
-//! number, and by three laws; the whole answer is held to channel.rs too. Tried are all floats about every grid point and every half, those
+//! number, and by four laws; the whole answer is held to channel.rs too. Tried are all floats about every grid point and every half, those
 //! next to zero, and random patterns.
 
 use crate::channel::{answer, channel, in_range, request, Report, Sort, QUANTITIES};
@@ -47,6 +47,7 @@ fn side(remark: i32) -> Option<Ordering> {
 struct Laws {
     said: Vec<Said>,
     whole: Tally,
+    eighths: Tally,
     half_step: Tally,
     in_order: Tally,
     /// How often each remark was met in each place.
@@ -58,6 +59,7 @@ impl Laws {
         Laws {
             said: Vec::new(),
             whole: Tally::new("remarks: on where value times steps is whole, and nowhere else"),
+            eighths: Tally::new("remarks: on at multiples of an eighth, of a pressure at quarters, and nowhere else"),
             half_step: Tally::new("remarks: they and the grid number tell the half step"),
             in_order: Tally::new("remarks: of one grid number, never lower for the greater float"),
             counts: [[0; 3]; 3],
@@ -67,6 +69,10 @@ impl Laws {
     fn take(&mut self, said: Said) {
         let (value, point, step) = said.in_parts();
         self.whole.same(said.remark == 2, value % step == 0, &said);
+        // n/1,000 is a float only where it is a multiple of 1/8, n/100 only where it is one of 1/4
+        let parts = if said.place == 2 { 4 } else { 8 };
+        let (exact, shift) = said.float.exact().unwrap();
+        self.eighths.same(said.remark == 2, parts * exact % (1 << shift) == 0, &said);
         // from the half below up to the point, the point, from there up to the half above
         let lies = match side(said.remark) {
             Some(Ordering::Less) => 2 * point - step <= 2 * value && value < point,
@@ -80,14 +86,14 @@ impl Laws {
     }
 
     /// Of two floats in one place the greater never has the lower grid number nor, with the same one, the lower remark.
-    fn all(mut self) -> [Tally; 3] {
+    fn all(mut self) -> [Tally; 4] {
         self.said.sort_unstable_by_key(Said::order);
         for two in self.said.windows(2).filter(|two| two[0].place == two[1].place) {
             let [low, high] = [two[0], two[1]].map(|said| (said.number, said.remark));
             let fine = if two[0].order() == two[1].order() { low == high } else { low <= high };
             self.in_order.same(fine, true, &two);
         }
-        [self.whole, self.half_step, self.in_order]
+        [self.whole, self.eighths, self.half_step, self.in_order]
     }
 }
 
