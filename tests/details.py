@@ -13,7 +13,7 @@ from pathlib import Path
 
 import model
 from model import LONGEST_DETAILS, LONGEST_STREAM, QUANTITIES, pairs
-from programs import PATIENCE, SAMPLE, Trial, block
+from programs import PATIENCE, ROOT, SAMPLE, Trial, block
 from streams import LONGEST, bits_of, covered_co2, covered_remarks, deep, hard_streams
 
 
@@ -62,6 +62,18 @@ class Details(Trial):
         shown = block("README.md", header).removesuffix("...\n")
         self.holds("README.md: not how the sample's begin", model.details(kept).startswith(shown.encode()), shown)
         self.loading(kept)
+        self.calibration()
+
+    def calibration(self):
+        """The bench's text, and what README.md shows for it; its remarks are those that the text's own comments say."""
+        script, text = ROOT / "examples" / "make-stream", SAMPLE.with_name("calibration.txt")
+        stream = subprocess.run([sys.executable, script, text], capture_output=True, timeout=PATIENCE, check=True).stdout
+        self.compare("calibration.txt", stream, self.start().printed(stream))
+        command = "$ ./run details examples/calibration.txt\n"
+        self.compare("README.md: calibration.txt", stream, block("README.md", command.rstrip()).removeprefix(command).encode())
+        remarks = [side.remarks for pair in pairs(stream) for side in pair]
+        on, below = model.ON, model.BELOW
+        self.holds("the bench's remarks", remarks == [(on, on, on), (on, on, on), (below, below, on), (on, below, on)], remarks)
 
     def loading(self, kept):
         """What README.md says to run in Python does keep the refused cells apart from the numbers."""
