@@ -29,7 +29,7 @@ def show_root(panel: Panel, sigma: int, trials: int) -> None:
 def show_channel(panel: Panel, name: str, report: Report) -> None:
     c = panel.channel(report)
     numbers = f"grid {c.sigma} {c.tau} {c.pi}, density {c.density}, bulk modulus {c.bulk}"
-    remarks = " ".join(remark.word for remark in c.remarks) if c.remarks else "none none none"
+    remarks = " ".join(map(str, c.remarks)) if c.remarks else "none none none"
     print(f"{name}: refusal {c.refusal:d}, {numbers}, remarks {remarks}")
     tell(c.refusal)
 

@@ -79,7 +79,8 @@ uint32_t warpsorrel_root(int64_t sigma, uint32_t trials, uint64_t out[4]);
 #define WARPSORREL_LENGTH 65544u
 
 /* Remarks: where the exact value of a float lies, seen from its grid point. A float halfway between two grid points goes to the upper one, so that
- * it lies below; minus zero is on. Of two floats with one grid number, the greater remark is the greater float's. 0 is none of them. */
+ * it lies below; minus zero is on. Of two floats with one grid number, the greater remark is the greater float's. 0 is none of them. Only multiples
+ * of 1/8 can be on, of a pressure multiples of 1/4: no float is 35.001, and the one nearest to it is below. */
 #define WARPSORREL_BELOW 1 /* below its grid point */
 #define WARPSORREL_ON 2    /* on its grid point */
 #define WARPSORREL_ABOVE 3 /* above its grid point */

@@ -28,8 +28,8 @@ a probe sends them: the nearest, and one too large for that becomes an infinity.
     density  in 0.001 kg/m3, at that pressure
     bulk     secant bulk modulus in 0.01 bar, rounded down
 
-Each float of an accepted reading has a Remark: whether the 32-bit float, not Python's own, lies below, on or above its grid point. 35 is on it; the
-float nearest to 5.1 lies below.
+Each float of an accepted reading has a Remark: whether the 32-bit float, not Python's own, lies below, on or above its grid point. Only multiples of
+1/8 can be on it, of a pressure multiples of 1/4: 35 is, and the 32-bit float nearest to 5.1 lies below.
 
 Threads may share a Panel: it keeps nothing between calls.
 """
@@ -207,8 +207,9 @@ class Report(NamedTuple):
 
 
 class Remark(IntEnum):
-    """Where the exact value of a 32-bit float lies, seen from its grid point; `word` says it. A float halfway between two grid points goes to the
-    upper one, so that it is BELOW; minus zero is ON. Of two floats with one grid number, the greater remark is the greater float's."""
+    """Where the exact value of a 32-bit float lies, seen from its grid point. It prints as its word; its number is the C ABI's. A float halfway between
+    two grid points goes to the upper one, so that it is BELOW; minus zero is ON. Of two floats with one grid number, the greater remark is the greater
+    float's."""
 
     BELOW = 1
     ON = 2
@@ -218,6 +219,12 @@ class Remark(IntEnum):
     def word(self) -> str:
         """The remark as a word: "below", "on" or "above"."""
         return self.name.lower()
+
+    def __str__(self) -> str:
+        return self.word
+
+    def __format__(self, how: str) -> str:
+        return format(int(self) if how.endswith("d") else self.word, how)
 
 
 class Remarks(NamedTuple):
@@ -234,7 +241,7 @@ class Channel(NamedTuple):
     sigma, tau, pi  the reading as it was put on the grid: salinity in 0.001, temperature in 0.001 degrees C, pressure in 0.01 bar
     density         in 0.001 kg/m3; within 0.0014 kg/m3 of the published formula at the floats as sent, 0.0006 on the grid
     bulk            secant bulk modulus in 0.01 bar, rounded down
-    remarks         whether salinity, temperature and pressure as sent lie below, on or above sigma, tau and pi; None if refused
+    remarks         whether the 32-bit floats of salinity, temperature and pressure lie below, on or above sigma, tau and pi; None if refused
     """
 
     refusal: Refusal

@@ -6,7 +6,7 @@
 Every file and every name that the page cites exists, comments aside; a law that stands in a column whose head names a file is a public law
 of that file; every must-fail edit is cited, and says in its first line what it does; every public function has its law in its crate's
 proofs/One, over its contract, and stands on the page; each but the inner ones has the law that it asks nothing of its caller. The numbers
-that README promises in its table are those of the theorems.
+that README promises in its table are those of the theorems. The definitions without remarks are made without those that have them.
 """
 import re
 import sys
@@ -73,6 +73,18 @@ def columns():
     return count
 
 
+WITH_REMARKS = """placeOf remarkOf firstOutside placedFor inOrder checkedFor checkedOf filled wateredOf entered checkedChannel channelOf needleOf comparisonOf
+channelNumber channelDensity channelBulk dissolved solubilityOf placeText placesText lineOf pageOf columns sideText sidesOf channelWords""".split()
+
+
+def bare():
+    """That the panel is the same without remarks says something only of definitions that are not the panel's own."""
+    words = set(re.findall(r"[A-Za-z]\w*", LAWS[CRATES / "remarks/specs/Bare.antt"]))
+    for name in WITH_REMARKS:
+        hold(any(re.search(r"(?m)^(?:abbrev|unfoldable) pub %s :" % name, text) for text in LAWS.values()), f"no such definition: {name}")
+        hold(name not in words, f"remarks/specs/Bare names {name}, which has remarks")
+
+
 def numbers():
     """README's table of how far to trust it: on the grid by `promises`, as sent by `sent`, of the definitions and of what the calls tell."""
     table = re.search(r"(?ms)^## How far may I trust it\?$.*?^\|---.*?\n(.*?)\n\n", (ROOT / "README.md").read_text(encoding="utf-8"))[1]
@@ -129,6 +141,7 @@ def functions():
 
 
 EDITS = edits_cited()
+bare()
 print(
     f"cited: {files_and_names()} names, {columns()} laws in columns of their own, {numbers()} rows of numbers, {edits()} edits,"
     f" {functions()} public functions, {len(wrong)} wrong"

@@ -88,6 +88,7 @@ def words():
     hold("the words of every refusal of ln K0", {0: "not refused", **CO2_WORDS}, {int(r): r.reason for r in Co2Refusal})
     hold("the names of a ln K0's", [r.name for r in Co2Refusal], [Refusal(r).name for r in Co2Refusal])
     hold("the words of the remarks", {1: "below", 2: "on", 3: "above"}, {int(r): r.word for r in Remark})
+    hold("how a remark prints", "below on above, 1 2 3,   below", "{} {:s} {!s}, {:d} {:d} {:d}, {:>7}".format(*Remark, *Remark, Remark.BELOW))
     hold("the remarks' places", ("salinity", "temperature", "pressure"), Remarks._fields)
     public = [name for name, what in vars(warpsorrel).items() if getattr(what, "__module__", "") == "warpsorrel" and name[0] != "_"]
     hold("the names that are given", sorted(["VERSION", "LINE", "PAGE", "Stream", *public]), sorted(warpsorrel.__all__))

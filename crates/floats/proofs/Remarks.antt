@@ -9,7 +9,7 @@ use native.Mathlib.Decide.{decLe}
 use lib.IntN.{ℤ, pos, _+ℤ_, _*ℤ_}
 use lib.Signed.{_≤ℤ_, _<ℤ_, leZ, leZ-yes}
 use lib.Dec.{T, lit≤}
-use lib.Ieee.{Float, fin, up, down}
+use lib.Ieee.{Float, fin, up, down, binary32, ofBits}
 use Rattle.whole.specs.Arith.{plus, minus}
 use Rattle.whole.specs.Order.{_≼_}
 use Rattle.whole.proofs.Ints.{add-is, mul-plus, mul-minus, to-≤ℤ, of-≤ℤ, to-<ℤ, of-<ℤ, same}
@@ -18,6 +18,16 @@ use Rattle.floats.specs.declared.Remark.{Remark}
 use Rattle.floats.specs.declared.Remark.the-variants.{Below, On, Above}
 use Rattle.floats.proofs.Floors.{across, under}
 use Rattle.floats.proofs.Order.{denom-pos, low, high}
+
+-- ---- in literals: 0.001 and -0.001 as their nearest floats have them, within 2⁻²⁴ of these points and on neither, of a product that is 1 where it is
+-- rounded to a float; 0.0625 and -0.0625, which are halves; 35 and -0.125; the least floats
+pub seen :
+    (remarkOf 1000 (ofBits binary32 0x3a83_126f) ≡ Above) × ((remarkOf 1000 (ofBits binary32 0xba83_126f) ≡ Below)
+    × ((remarkOf 1000 (ofBits binary32 0x3d80_0000) ≡ Below) × ((remarkOf 1000 (ofBits binary32 0xbd80_0000) ≡ Below)
+    × ((remarkOf 1000 (ofBits binary32 0x420c_0000) ≡ On) × ((remarkOf 1000 (ofBits binary32 0xbe00_0000) ≡ On)
+    × ((remarkOf 100 (ofBits binary32 0x0000_0001) ≡ Above) × (remarkOf 1000 (ofBits binary32 0x8000_0001) ≡ Below)))))))
+unfolding remarkOf gridNo ofBits
+seen = (refl, (refl, (refl, (refl, (refl, (refl, (refl, refl)))))))
 
 -- ---- tests and what they tell
 le-true : (a b : ℤ) → a ≼ b → leZ a b ≡ true

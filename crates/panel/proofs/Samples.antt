@@ -1,5 +1,5 @@
--- The two waters of SPEC's example, and one of them at 1,000 bar, as the panel answers them: computed from the floats' bits to the shown density; and
--- their needles. Assumes nothing.
+-- The two waters of SPEC's example, one of them at 1,000 bar, and one off the grid, as the panel answers them: computed from the floats' bits to the shown
+-- density and the remarks; and needles of these. Assumes nothing.
 use Prim.Native.Nat.{ℕ}
 use mathlib.Core.Path.{_≡_, refl, ap₂, _∙_}
 use lib.IntN.{pos}
@@ -67,7 +67,7 @@ needle-is =
     level fresh salt (record { sigma = pos 0; tau = pos 5_000; pi = pos 0 }) (record { sigma = pos 35_000; tau = pos 5_000; pi = pos 0 }) 999_967 2_033_780 1_027_675 2_218_593 exact exact
     fresh-is salt-is refl
 
--- of the first and the last: the fresh water's density at 1,000 bar is 1,044,128, so that the needle is 25,361 and not the 69,522 between the two
+-- of the first and the deep one: the fresh water's density at 1,000 bar is 1,044,128, so that the needle is 25,361 and not the 69,522 between the two
 -- that are shown
 at-depth : (d k c j : ℕ) (m n : Remarks) →
     needleOf (Channel.Accepted (record { sigma = pos 0; tau = pos 5_000; pi = pos 0 }) d k m) (Channel.Accepted (record { sigma = pos 35_000; tau = pos 5_000; pi = pos 100_000 }) c j n) ≡

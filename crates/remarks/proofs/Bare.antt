@@ -1,7 +1,7 @@
 -- With the remarks left out, every definition of the panel is the one of specs/Bare: what is shown, compared and printed is as it is where nobody asks for
 -- remarks. In the table and in the words of the C call they stand last, after what stood there before. Assumes nothing.
 use Prim.Native.Nat.{ℕ, _+_}
-use mathlib.Core.Path.{_≡_, refl, sym, ap, ap₂, _∙_}
+use mathlib.Core.Path.{_≡_, refl, ap, ap₂, _∙_}
 use mathlib.Core.Bool.{Bool, true, false, cond}
 use mathlib.Core.List.{List, [], _∷_, _++_}
 use mathlib.Core.Option.{Option, some, none}
@@ -16,8 +16,6 @@ use Rattle.readings.specs.declared.Purpose.{Purpose}
 use Rattle.readings.specs.declared.Report.{Report}
 use Rattle.readings.specs.declared.Reading.{Reading}
 use Rattle.readings.specs.declared.Finite.{Finite}
-use Rattle.readings.specs.declared.Point.{Point}
-use Rattle.readings.specs.declared.Remarks.{Remarks}
 use Rattle.readings.specs.declared.Checked.{Checked}
 use Rattle.readings.specs.declared.Entry.{Entry}
 use Rattle.readings.specs.Check.{salinities, temperatures, pressures, givenOf, allFinite, firstOutside, placedFor, inOrder, checkedFor}
@@ -29,14 +27,13 @@ use Rattle.channels.specs.Numbers.{channelNumber, channelDensity, channelBulk}
 use Rattle.panel.specs.Panel.{filled, wateredOf, checkedChannel, channelOf, needleOf}
 use Rattle.pairs.specs.declared.Pair.{Pair}
 use Rattle.pairs.specs.Pairs.{pairs}
-use Rattle.cells.specs.Cells.{decimal, Cell, word, refusal}
-use Rattle.texts.specs.Text.{placeText, needleText, placesText, lineOf}
+use Rattle.cells.specs.Cells.{Cell, word, refusal}
+use Rattle.texts.specs.Text.{placeText, placesText, lineOf}
 use Rattle.pages.specs.Page.{tooLong, header, Line, linesFrom, paged, pageOf}
 use Rattle.tables.specs.Table.{lettersOf, columns}
 use Rattle.abi.specs.Abi.{channelWords}
 use Rattle.remarks.specs.Bare.{
   BarePlace,
-  BareChannel,
   barePlace,
   placeWithout,
   bareChecked,

@@ -1,3 +1,4 @@
-pub mod Bare
+pub mod Laws
 pub mod Calls
+pub mod Bare
 pub mod Eighths
