@@ -56,32 +56,51 @@ static void take_mild(const char *which) {
     take_from(which, 0);
 }
 
-static const char *const streams[] = {"deep", "surface", "missing"};
+/* By the old kinds, and by those of records with the probe's number. */
+static const char *const streams[] = {"deep", "surface", "missing"}, *const numbered[] = {"deep-17", "surface-18", "missing-19"};
 /* The longest stream that has a page, and a byte more, which makes one that is too long. */
 #define STREAM 60000
 static uint8_t stream[STREAM + 1], page[WARPSORREL_PAGE], other_page[WARPSORREL_PAGE];
 
-/* 60,000 bytes of records of one kind. */
+static size_t put_record(size_t at, uint32_t kind, uint32_t floats, const struct reading *r, uint16_t probe) {
+    uint32_t number = kind > 16 ? 2 : 0, body = number + 4 * floats;
+    uint8_t head[4] = {(uint8_t)body, 0, (uint8_t)kind, 0}, low_first[2] = {(uint8_t)probe, (uint8_t)(probe >> 8)};
+    float own[3] = {r->salinity, r->temperature, r->pressure};
+    memcpy(stream + at, head, 4);
+    memcpy(stream + at + 4, low_first, number);
+    memcpy(stream + at + 4 + number, own, 4 * floats);
+    return at + 4 + body;
+}
+
+/* 60,000 bytes of records of one kind, no two of them with one number; what is left is filled up with missing probes. */
 static void take_stream(const char *which) {
-    uint32_t kind = which == streams[0] ? 1 : which == streams[1] ? 2 : 3, body = kind == 1 ? 12 : kind == 2 ? 8 : 0;
+    uint32_t d = 0, is_numbered;
+    while (which != streams[d] && which != numbered[d]) d++;
+    is_numbered = which == numbered[d];
+    uint32_t kind = d + 1 + 16 * is_numbered, floats = d == 0 ? 3 : d == 1 ? 2 : 0, length = 4 + 2 * is_numbered + 4 * floats;
+    size_t at = 0;
+    uint16_t i = 0;
     take_readings(waters[0]);
-    for (size_t at = 0, i = 0; at < STREAM; at += 4 + body, i++) {
-        uint8_t head[4] = {(uint8_t)body, 0, (uint8_t)kind, 0};
-        float floats[3] = {readings[i].salinity, readings[i].temperature, readings[i].pressure};
-        memcpy(stream + at, head, 4);
-        memcpy(stream + at + 4, floats, body);
-    }
+    for (; at + length <= STREAM; i++) at = put_record(at, kind, floats, &readings[i], i);
+    for (; at < STREAM; i++) at = put_record(at, STREAM - at >= 6 ? 19 : 3, 0, &readings[i], i);
+}
+
+/* The same with one number throughout. */
+static void take_one_probe(const char *which) {
+    take_stream(which);
+    for (size_t at = 0; at < STREAM; at += 4u + stream[at])
+        if (stream[at + 2] > 16) memcpy(stream + at + 4, "\1\2", 2);
 }
 
 static const char *const shapes[] = {"accepted", "refused", "sheet"};
 /* Rows in a timed turn, so many that no processor learns them by heart; the longest row, with bytes to spare. */
 #define ROWS 2048
-#define ROW 72
+#define ROW 80
 static struct row rows[MOST];
 static uint8_t table[ROWS * ROW];
 
-/* The uniform readings from 0 degrees C on two by two, as details prints them, or all of them missing; or as the sheet does, which is through with
- * them after half the rows and starts again. */
+/* The uniform readings from 0 degrees C on two by two, as details prints them, or all of them missing, each of another probe; or as the sheet does,
+ * which is through with them after half the rows and starts again. */
 static void take_rows(const char *which) {
     take_mild(waters[0]);
     for (int i = 0; i < MOST; i++) {
@@ -89,19 +108,19 @@ static void take_rows(const char *which) {
         int number = i / 2 + 1, side = i % 2;
         if (which == shapes[0]) {
             int64_t channel[8], ln_k0;
-            warpsorrel_channel(1, r->salinity, r->temperature, r->pressure, channel);
+            warpsorrel_channel(1, 0, r->salinity, r->temperature, r->pressure, channel);
             warpsorrel_co2(1, r->salinity, r->temperature, r->pressure, &ln_k0);
             int density = (int)channel[3], bulk = (int)channel[4], letters = 0;
             for (int k = 5; k < 8; k++) letters = letters << 8 | " boa"[channel[k]];
-            rows[i] = (struct row){ACCEPTED, number, side, {(int)r->sigma, (int)r->tau, (int)r->pi, density, bulk, (int)ln_k0, letters},
+            rows[i] = (struct row){ACCEPTED, number, side, {(int)r->sigma, (int)r->tau, (int)r->pi, density, bulk, (int)ln_k0, letters, i},
                                    {r->s, r->t, r->p, density / 1000.0, bulk / 100.0, (double)ln_k0 / 1e6}};
         } else if (which == shapes[1]) {
-            rows[i] = (struct row){REFUSED, number, side, {1, 1, 1, 1, 1, 1, 1}, {0}};
+            rows[i] = (struct row){REFUSED, number, side, {1, 1, 1, 1, 1, 1, 1, i}, {0}};
         } else {
             int pair = i % (MOST / 2);
             int64_t out[3];
             r = &readings[2 * pair];
-            warpsorrel_needle(1, r[0].salinity, r[0].temperature, r[0].pressure, 1, r[1].salinity, r[1].temperature, r[1].pressure, out);
+            warpsorrel_needle(1, 0, r[0].salinity, r[0].temperature, r[0].pressure, 1, 0, r[1].salinity, r[1].temperature, r[1].pressure, out);
             int left = (int)out[0], right = (int)out[1], needle = (int)out[2];
             rows[i] = (struct row){SHEET, pair + 1, 0, {left, right, needle}, {left, right, needle}};
         }
@@ -127,12 +146,12 @@ static uint64_t double_grid(int n) {
     return (uint64_t)sum;
 }
 
-/* From floats, all checks, by all eight words. */
+/* From floats, all checks, by all eight words; each of another probe. */
 #define CHANNEL(name, channel) \
     static uint64_t name(int n) { \
         int64_t out[8], sum = 0; \
         for (int i = 0; i < n; i++) { \
-            sum += channel(1, readings[i].salinity, readings[i].temperature, readings[i].pressure, out); \
+            sum += channel(1, (uint16_t)i, readings[i].salinity, readings[i].temperature, readings[i].pressure, out); \
             for (int k = 0; k < 8; k++) sum += out[k]; \
         } \
         return (uint64_t)sum; \
@@ -145,7 +164,9 @@ CHANNEL(c_channel, plain_channel)
         int64_t out[3], sum = 0; \
         for (int i = 0; i + 1 < n; i += 2) { \
             const struct reading *l = &readings[i], *r = l + 1; \
-            sum += needle(1, l->salinity, l->temperature, l->pressure, 1, r->salinity, r->temperature, r->pressure, out) + out[2]; \
+            sum += needle(1, (uint16_t)i, l->salinity, l->temperature, l->pressure, 1, (uint16_t)(i + 1), r->salinity, r->temperature, r->pressure, \
+                          out); \
+            sum += out[2]; \
         } \
         return (uint64_t)sum; \
     }
@@ -238,7 +259,7 @@ static const struct {
     const char *const *data;
     void (*take)(const char *);
 } all[] = {{"reading", waters, take_readings}, {"channel", waters, take_readings}, {"needle", waters, take_readings}, {"co2", waters, take_mild},
-           {"page", streams, take_stream}, {"row", shapes, take_rows}};
+           {"page", streams, take_stream}, {"page", numbered, take_stream}, {"row", shapes, take_rows}};
 #define ALL (int)(sizeof all / sizeof *all)
 
 /* Whether a work answers to a thing's data: a refused row has no doubles. */
@@ -263,12 +284,12 @@ static void any_floats(const struct reading *r, float floats[3]) {
     if (draw(2) == 0) memcpy(&floats[draw(3)], &sorts[draw(sizeof sorts / sizeof *sorts)], 4);
 }
 
-static int channel_differs(const struct reading *r, uint32_t kind) {
+static int channel_differs(const struct reading *r, uint32_t kind, uint16_t probe) {
     float floats[3];
     int64_t one[8], two[8];
     any_floats(r, floats);
-    uint32_t refusal = warpsorrel_channel(kind, floats[0], floats[1], floats[2], one);
-    return refusal != plain_channel(kind, floats[0], floats[1], floats[2], two) || memcmp(one, two, sizeof one) != 0;
+    uint32_t refusal = warpsorrel_channel(kind, probe, floats[0], floats[1], floats[2], one);
+    return refusal != plain_channel(kind, probe, floats[0], floats[1], floats[2], two) || memcmp(one, two, sizeof one) != 0;
 }
 
 static int co2_differs(const struct reading *r, uint32_t kind) {
@@ -298,9 +319,15 @@ static int row_differs(const struct row *r, size_t at) {
     return 0;
 }
 
+static double pressure_of(const struct reading *r, uint32_t kind) {
+    return kind == WARPSORREL_DEEP || kind == WARPSORREL_NUMBERED_DEEP ? r->p : 0;
+}
+
 static int check(void) {
     static const uint32_t kinds[] = {WARPSORREL_DEEP, WARPSORREL_DEEP, WARPSORREL_DEEP, WARPSORREL_SURFACE, WARPSORREL_SURFACE,
-                                     WARPSORREL_MISSING, 4, WARPSORREL_CUT, WARPSORREL_UNKNOWN, WARPSORREL_LENGTH};
+                                     WARPSORREL_MISSING, 4, WARPSORREL_CUT, WARPSORREL_UNKNOWN, WARPSORREL_LENGTH, WARPSORREL_NUMBERED_DEEP,
+                                     WARPSORREL_NUMBERED_DEEP, WARPSORREL_NUMBERED_SURFACE, WARPSORREL_NUMBERED_MISSING, 20};
+    static const uint16_t probes[] = {0, 0, 1, 256, 513, 513, 513, 65535};
     for (int d = 0; d < 3; d++) {
         take_readings(waters[d]);
         for (int i = 0; i < MOST; i++) {
@@ -313,13 +340,15 @@ static int check(void) {
             if (off > 0.0006 || off < -0.0006) return differs("reading in doubles", waters[d], i);
             int64_t one[3], two[3];
             uint32_t lk = kinds[draw(sizeof kinds / sizeof *kinds)], rk = kinds[draw(sizeof kinds / sizeof *kinds)];
-            uint32_t refusal = warpsorrel_needle(lk, l->salinity, l->temperature, l->pressure, rk, r->salinity, r->temperature, r->pressure, one);
-            if (refusal != plain_needle(lk, l->salinity, l->temperature, l->pressure, rk, r->salinity, r->temperature, r->pressure, two) ||
+            uint16_t ln = probes[draw(sizeof probes / sizeof *probes)], rn = probes[draw(sizeof probes / sizeof *probes)];
+            uint32_t refusal = warpsorrel_needle(lk, ln, l->salinity, l->temperature, l->pressure, rk, rn, r->salinity, r->temperature, r->pressure,
+                                                 one);
+            if (refusal != plain_needle(lk, ln, l->salinity, l->temperature, l->pressure, rk, rn, r->salinity, r->temperature, r->pressure, two) ||
                 memcmp(one, two, sizeof one) != 0)
                 return differs("needle", waters[d], i);
-            off = double_needle(l->s, l->t, lk == WARPSORREL_DEEP ? l->p : 0, r->s, r->t, rk == WARPSORREL_DEEP ? r->p : 0) - (double)one[2] / 1000;
+            off = double_needle(l->s, l->t, pressure_of(l, lk), r->s, r->t, pressure_of(r, rk)) - (double)one[2] / 1000;
             if (refusal == 0 && (off > 0.0012 || off < -0.0012)) return differs("needle in doubles", waters[d], i);
-            if (channel_differs(r, lk)) return differs("channel", waters[d], i);
+            if (channel_differs(r, lk, ln)) return differs("channel", waters[d], i);
             if (co2_differs(r, rk)) return differs("ln K0", waters[d], i);
         }
         take_mild(waters[d]);
@@ -335,11 +364,15 @@ static int check(void) {
         if (pages_differ(STREAM, sizeof page)) return differs("page", streams[d], 0);
         if (pages_differ(STREAM, sizeof page - 1)) return differs("page refused", streams[d], 0);
         if (pages_differ(STREAM + 1, sizeof page)) return differs("page too long", streams[d], 0);
+        take_stream(numbered[d]);
+        if (pages_differ(STREAM, sizeof page)) return differs("page", numbered[d], 0);
+        take_one_probe(numbered[d]);
+        if (pages_differ(STREAM, sizeof page)) return differs("page of one probe", numbered[d], 0);
         take_rows(shapes[d]);
         for (int i = 0; i < MOST; i++)
             if (row_differs(&rows[i], (size_t)i % ROW)) return differs("row", shapes[d], i);
     }
-    printf("the library and C agree: %d readings, %d channels, %d needles, %d of ln K0, 3 pages, %d rows\n", 3 * MOST, 3 * MOST, 3 * MOST,
+    printf("the library and C agree: %d readings, %d channels, %d needles, %d of ln K0, 9 pages, %d rows\n", 3 * MOST, 3 * MOST, 3 * MOST,
            6 * MOST, 3 * MOST);
     return 0;
 }

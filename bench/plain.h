@@ -8,9 +8,9 @@
 /* plain.c: the same whole-number recipe and the same whole-number definition of ln K0, written in C as usual; with the root by the search that the
  * recipe names. */
 uint32_t plain_density(int64_t sigma, int64_t tau, int64_t pi);
-uint32_t plain_channel(uint32_t kind, float salinity, float temperature, float pressure, int64_t out[8]);
-uint32_t plain_needle(uint32_t left_kind, float left_salinity, float left_temperature, float left_pressure, uint32_t right_kind,
-                      float right_salinity, float right_temperature, float right_pressure, int64_t out[3]);
+uint32_t plain_channel(uint32_t kind, uint16_t probe, float salinity, float temperature, float pressure, int64_t out[8]);
+uint32_t plain_needle(uint32_t left_kind, uint16_t left_probe, float left_salinity, float left_temperature, float left_pressure, uint32_t right_kind,
+                      uint16_t right_probe, float right_salinity, float right_temperature, float right_pressure, int64_t out[3]);
 uint32_t plain_co2(uint32_t kind, float salinity, float temperature, float pressure, int64_t *out);
 uint32_t plain_page(const uint8_t *stream, size_t length, uint8_t *out, size_t room, size_t *count);
 
@@ -32,8 +32,8 @@ double double_co2(double salinity, double temperature);
 struct row {
     enum { ACCEPTED, REFUSED, SHEET } shape;
     int number, side;
-    int whole[7];   /* sigma, tau, pi, density, bulk modulus, ln K0, the remarks' letters, a byte each; seven times the refusal; of the sheet left,
-                     * right and needle */
+    int whole[8];   /* sigma, tau, pi, density, bulk modulus, ln K0, the remarks' letters, a byte each, the probe's number; seven times the refusal
+                     * and the number; of the sheet left, right and needle */
     double real[6]; /* the same numbers as doubles, where there is no refusal: with their units of 1, of the sheet as they are shown */
 };
 

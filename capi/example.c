@@ -16,6 +16,7 @@ struct root {
 struct report {
     const char *name;
     uint32_t kind;
+    uint16_t probe; /* its number; 0 for a probe without one */
     float salinity, temperature, pressure;
 };
 
@@ -54,7 +55,7 @@ static struct root root_of(int64_t sigma, uint32_t trials) {
 
 static struct channel channel_of(struct report r) {
     int64_t out[8];
-    uint32_t refusal = warpsorrel_channel(r.kind, r.salinity, r.temperature, r.pressure, out);
+    uint32_t refusal = warpsorrel_channel(r.kind, r.probe, r.salinity, r.temperature, r.pressure, out);
     return (struct channel){refusal, out[0], out[1], out[2], out[3], out[4], {out[5], out[6], out[7]}};
 }
 
@@ -66,7 +67,8 @@ static struct co2 co2_of(struct report r) {
 
 static struct needle needle_of(struct report l, struct report r) {
     int64_t out[3];
-    uint32_t refusal = warpsorrel_needle(l.kind, l.salinity, l.temperature, l.pressure, r.kind, r.salinity, r.temperature, r.pressure, out);
+    uint32_t refusal = warpsorrel_needle(l.kind, l.probe, l.salinity, l.temperature, l.pressure,
+                                         r.kind, r.probe, r.salinity, r.temperature, r.pressure, out);
     return (struct needle){refusal, out[0], out[1], out[2]};
 }
 
@@ -84,10 +86,11 @@ static const char *words_of(uint32_t refusal) {
     case WARPSORREL_REFUSED_TEMPERATURE: return "the temperature is not from -2 to 40 degrees C";
     case WARPSORREL_REFUSED_PRESSURE: return "the pressure is not from 0 to 1,000 bar";
     case WARPSORREL_REFUSED_CUT: return "the record is cut short";
-    case WARPSORREL_REFUSED_KIND: return "the kind is none of 1, 2, 3";
+    case WARPSORREL_REFUSED_KIND: return "the kind is none of 1, 2, 3, 17, 18, 19";
     case WARPSORREL_REFUSED_LENGTH: return "the length is not the kind's own";
     case WARPSORREL_REFUSED_ROOM: return "the room is too small";
     case WARPSORREL_REFUSED_PAIR_NUMBER: return "the pair number is not from 1 to 9,999";
+    case WARPSORREL_REFUSED_SAME_PROBE: return "both sides have the same probe number, other than 0";
     default: return "no refusal of this version";
     }
 }
@@ -159,8 +162,8 @@ static void show_recorder(uint32_t shown) {
 static void show_line(uint32_t number, struct report l, struct report r, size_t room) {
     uint8_t out[WARPSORREL_LINE];
     size_t count;
-    uint32_t refusal = warpsorrel_line(number, l.kind, l.salinity, l.temperature, l.pressure, r.kind, r.salinity, r.temperature, r.pressure,
-                                       out, room, &count);
+    uint32_t refusal = warpsorrel_line(number, l.kind, l.probe, l.salinity, l.temperature, l.pressure,
+                                       r.kind, r.probe, r.salinity, r.temperature, r.pressure, out, room, &count);
     printf("line %" PRIu32 " of %s, %s in a room of %zu: refusal %" PRIu32 ", %zu bytes\n", number, l.name, r.name, room, refusal, count);
     fwrite(out, 1, count, stdout);
     tell(refusal);
@@ -189,6 +192,13 @@ static void show_page(const uint8_t *stream, size_t length, size_t room) {
     free(out);
 }
 
+static void show_stream(const uint8_t *stream, size_t length) {
+    size_t pairs = warpsorrel_pairs(stream, length);
+    printf("stream of %zu bytes: %zu pairs\n", length, pairs);
+    for (size_t before = 0; before <= pairs; before++) show_pair(stream, length, before);
+    show_page(stream, length, WARPSORREL_PAGE);
+}
+
 int main(void) {
     /* A shared library may be another one than this program was compiled for. */
     if (warpsorrel_version() != WARPSORREL_VERSION) {
@@ -206,24 +216,31 @@ int main(void) {
     show_root(0, 0);
     show_root(42001, 16);
 
-    const struct report fjord = {"fjord", WARPSORREL_SURFACE, 28.5f, 12.25f, 0};
-    const struct report deep = {"deep", WARPSORREL_DEEP, 34.25f, 7.5f, 4};
-    const struct report shallow = {"shallow", WARPSORREL_DEEP, 34.25f, 7.5f, 0.4f}; /* the deep one's water */
-    const struct report brine = {"brine", WARPSORREL_DEEP, 42.25f, 7.5f, 4};
-    const struct report none = {"none", WARPSORREL_MISSING, 0, 0, 0};
-    const struct report broken = {"broken", WARPSORREL_SURFACE, NAN, 7.5f, 0};
-    const struct report hot = {"hot", WARPSORREL_SURFACE, 34.25f, 40.5f, 0};
-    const struct report abyss = {"abyss", WARPSORREL_DEEP, 34.25f, 7.5f, 1000.5f};
-    const struct report frost = {"frost", WARPSORREL_SURFACE, 34.25f, -1, 0};
-    const struct report blind = {"blind", WARPSORREL_DEEP, 34.25f, 7.5f, NAN}; /* the deep one's water, its depth not known */
+    const struct report fjord = {"fjord", WARPSORREL_SURFACE, 0, 28.5f, 12.25f, 0};
+    const struct report deep = {"deep", WARPSORREL_DEEP, 0, 34.25f, 7.5f, 4};
+    const struct report shallow = {"shallow", WARPSORREL_DEEP, 0, 34.25f, 7.5f, 0.4f}; /* the deep one's water */
+    const struct report brine = {"brine", WARPSORREL_DEEP, 0, 42.25f, 7.5f, 4};
+    const struct report none = {"none", WARPSORREL_MISSING, 0, 0, 0, 0};
+    const struct report broken = {"broken", WARPSORREL_SURFACE, 0, NAN, 7.5f, 0};
+    const struct report hot = {"hot", WARPSORREL_SURFACE, 0, 34.25f, 40.5f, 0};
+    const struct report abyss = {"abyss", WARPSORREL_DEEP, 0, 34.25f, 7.5f, 1000.5f};
+    const struct report frost = {"frost", WARPSORREL_SURFACE, 0, 34.25f, -1, 0};
+    const struct report blind = {"blind", WARPSORREL_DEEP, 0, 34.25f, 7.5f, NAN}; /* the deep one's water, its depth not known */
     /* Off the grid: no 32-bit float is just 5.1, 33.9 or -1.1, and 0.004 bar goes to 0.00. A surface's pressure is not read: it is on. */
-    const struct report bench = {"bench", WARPSORREL_DEEP, 35, 5.1f, 0.004f};
-    const struct report winter = {"winter", WARPSORREL_SURFACE, 33.9f, -1.1f, NAN};
+    const struct report bench = {"bench", WARPSORREL_DEEP, 0, 35, 5.1f, 0.004f};
+    const struct report winter = {"winter", WARPSORREL_SURFACE, 0, 33.9f, -1.1f, NAN};
+    /* Numbered probes: the fjord's water and the deep one's again, whose channels do not depend on the number; probe 17 in the other's place as well,
+     * its number beside the kind without one, which says the same; and probe 17 does not answer. */
+    const struct report upper = {"upper", WARPSORREL_NUMBERED_SURFACE, 17, 28.5f, 12.25f, 0};
+    const struct report lower = {"lower", WARPSORREL_NUMBERED_DEEP, 18, 34.25f, 7.5f, 4};
+    const struct report twice = {"twice", WARPSORREL_DEEP, 17, 34.25f, 7.5f, 4};
+    const struct report lost = {"lost", WARPSORREL_NUMBERED_MISSING, 17, 0, 0, 0};
     /* Records that gave no reading have a channel, and a place on a line, too. */
-    const struct report cut = {"cut", WARPSORREL_CUT, 0, 0, 0};
-    const struct report unknown = {"unknown", WARPSORREL_UNKNOWN, 0, 0, 0};
-    const struct report length = {"length", WARPSORREL_LENGTH, 0, 0, 0};
-    const struct report every[] = {fjord, deep, none, broken, brine, hot, abyss, frost, blind, bench, winter, cut, unknown, length};
+    const struct report cut = {"cut", WARPSORREL_CUT, 0, 0, 0, 0};
+    const struct report unknown = {"unknown", WARPSORREL_UNKNOWN, 0, 0, 0, 0};
+    const struct report length = {"length", WARPSORREL_LENGTH, 0, 0, 0, 0};
+    const struct report every[] = {fjord, deep, none, broken, brine, hot, abyss, frost, blind, bench, winter, upper, lower, twice, lost, cut,
+                                   unknown, length};
     for (size_t i = 0; i < sizeof every / sizeof *every; i++) show_channel(every[i]);
     /* The frost has a density and no ln K0; the abyss and the blind one, whose pressures are refused, have the deep one's ln K0 and no density. */
     for (size_t i = 0; i < sizeof every / sizeof *every; i++) show_co2(every[i]);
@@ -232,6 +249,10 @@ int main(void) {
     show_needle(shallow, deep);
     show_needle(fjord, brine);
     show_needle(none, deep);
+    /* Two probes, and one in both sockets: no needle, and both densities all the same. A side that is refused comes first. */
+    show_needle(upper, lower);
+    show_needle(upper, twice);
+    show_needle(lost, twice);
     show_recorder((uint32_t)channel_of(deep).density);
     show_recorder(16384000);
 
@@ -240,16 +261,21 @@ int main(void) {
     show_line(2, fjord, cut, WARPSORREL_LINE);
     show_line(3, length, deep, WARPSORREL_LINE);
     show_line(4, unknown, none, WARPSORREL_LINE);
+    show_line(5, upper, lower, WARPSORREL_LINE);
+    show_line(6, upper, twice, WARPSORREL_LINE);
     show_line(1, fjord, deep, WARPSORREL_LINE - 1);
     show_line(10000, fjord, deep, WARPSORREL_LINE);
     show_line(0, fjord, deep, WARPSORREL_LINE);
 
     static const uint8_t stream[] = {0x08, 0, 2, 0, 0, 0, 0, 0, 0, 0, 0xA0, 0x40, 0x08, 0, 2, 0, 0, 0, 0x0C, 0x42, 0, 0, 0xA0, 0x40,
                                      0x00, 0, 3, 0, 0x08, 0, 2, 0, 0, 0, 0, 0, 0, 0, 0xA0, 0x40};
-    size_t pairs = warpsorrel_pairs(stream, sizeof stream);
-    printf("stream of %zu bytes: %zu pairs\n", sizeof stream, pairs);
-    for (size_t before = 0; before <= pairs; before++) show_pair(stream, sizeof stream, before);
-    show_page(stream, sizeof stream, WARPSORREL_PAGE);
+    show_stream(stream, sizeof stream);
     show_page(stream, sizeof stream, WARPSORREL_PAGE - 1);
+
+    /* Records with a probe's number: 513 in both sockets, then 513 and 514, then 513 missing. */
+    static const uint8_t numbered[] = {0x0A, 0, 18, 0, 1, 2, 0, 0, 0, 0, 0, 0, 0xA0, 0x40, 0x0A, 0, 18, 0, 1, 2, 0, 0, 0x0C, 0x42, 0, 0, 0xA0, 0x40,
+                                       0x0A, 0, 18, 0, 1, 2, 0, 0, 0, 0, 0, 0, 0xA0, 0x40, 0x0A, 0, 18, 0, 2, 2, 0, 0, 0x0C, 0x42, 0, 0, 0xA0, 0x40,
+                                       0x02, 0, 19, 0, 1, 2, 0x0E, 0, 17, 0, 2, 2, 0, 0, 0x0C, 0x42, 0, 0, 0xA0, 0x40, 0, 0, 0xC8, 0x42};
+    show_stream(numbered, sizeof numbered);
     return 0;
 }

@@ -67,6 +67,14 @@ def show_pair(panel: Panel, stream: bytes, before: int) -> None:
     tell(pair.needle_refusal)
 
 
+def show_stream(panel: Panel, stream: bytes) -> None:
+    pairs = panel.pairs(stream)
+    print(f"stream of {len(stream)} bytes: {pairs} pairs")
+    for before in range(pairs + 1):
+        show_pair(panel, stream, before)
+    show_written("page", PAGE, panel.page(stream, PAGE))
+
+
 def main(panel: Panel) -> None:
     print(f"version {panel.version}")
     show_grid(panel, 35_000, 25_000, 100_000)
@@ -88,9 +96,15 @@ def main(panel: Panel) -> None:
     # Off the grid: no 32-bit float is just 5.1, 33.9 or -1.1, and 0.004 bar goes to 0.00. A surface's pressure is not read: it is on.
     bench = ("bench", Report.deep(35, 5.1, 0.004))
     winter = ("winter", Report(Kind.SURFACE, 33.9, -1.1, float("nan")))
+    # Numbered probes: the fjord's water and the deep one's again, whose channels do not depend on the number; probe 17 in the other's place as well;
+    # and probe 17 does not answer. A record that carries the number has a kind of its own, which says the same.
+    upper = ("upper", Report.surface(28.5, 12.25, probe=17))
+    lower = ("lower", Report.deep(34.25, 7.5, 4, probe=18))
+    twice = ("twice", Report(Kind.NUMBERED_DEEP, 34.25, 7.5, 4, probe=17))
+    lost = ("lost", Report.missing(probe=17))
     # Records that gave no reading have a channel, and a place on a line, too.
     cut, unknown, length = ("cut", Report(Kind.CUT)), ("unknown", Report(Kind.UNKNOWN)), ("length", Report(Kind.LENGTH))
-    every = fjord, deep, none, broken, brine, hot, abyss, frost, blind, bench, winter, cut, unknown, length
+    every = fjord, deep, none, broken, brine, hot, abyss, frost, blind, bench, winter, upper, lower, twice, lost, cut, unknown, length
     for each in every:
         show_channel(panel, *each)
     # The frost has a density and no ln K0; the abyss and the blind one, whose pressures are refused, have the deep one's ln K0 and no density.
@@ -98,21 +112,27 @@ def main(panel: Panel) -> None:
         show_co2(panel, *each)
     for left, right in ((fjord, deep), (deep, fjord), (shallow, deep), (fjord, brine), (none, deep)):
         show_needle(panel, *left, *right)
+    # Two probes, and one in both sockets: no needle, and both densities all the same. A side that is refused comes first.
+    for left, right in ((upper, lower), (upper, twice), (lost, twice)):
+        show_needle(panel, *left, *right)
     show_recorder(panel, panel.channel(deep[1]).density)
     show_recorder(panel, 16_384_000)
 
     lines = (1, fjord, deep, LINE), (9_999, deep, fjord, LINE), (2, fjord, cut, LINE), (3, length, deep, LINE), (4, unknown, none, LINE)
+    numbered = (5, upper, lower, LINE), (6, upper, twice, LINE)
     refused = (1, fjord, deep, LINE - 1), (10_000, fjord, deep, LINE), (0, fjord, deep, LINE)
-    for number, left, right, room in lines + refused:
+    for number, left, right, room in lines + numbered + refused:
         show_written(f"line {number} of {left[0]}, {right[0]}", room, panel.line(number, left[1], right[1], room))
 
     stream = bytes.fromhex("08000200000000000000A0400800020000000C420000A0400000030008000200000000000000A040")
-    pairs = panel.pairs(stream)
-    print(f"stream of {len(stream)} bytes: {pairs} pairs")
-    for before in range(pairs + 1):
-        show_pair(panel, stream, before)
-    for room in (PAGE, PAGE - 1):
-        show_written("page", room, panel.page(stream, room))
+    show_stream(panel, stream)
+    show_written("page", PAGE - 1, panel.page(stream, PAGE - 1))
+
+    # Records with a probe's number: 513 in both sockets, then 513 and 514, then 513 missing.
+    same = "0A0012000102000000000000A0400A001200010200000C420000A040"
+    different = "0A0012000102000000000000A0400A001200020200000C420000A040"
+    missing = "0200130001020E001100020200000C420000A0400000C842"
+    show_stream(panel, bytes.fromhex(same + different + missing))
 
 
 if __name__ == "__main__":

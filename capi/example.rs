@@ -9,18 +9,18 @@ mod panel {
             pub fn warpsorrel_density(sigma: i64, tau: i64, pi: i64) -> u32;
             pub fn warpsorrel_bulk(sigma: i64, tau: i64, pi: i64) -> u32;
             pub fn warpsorrel_root(sigma: i64, trials: u32, out: *mut [u64; 4]) -> u32;
-            pub fn warpsorrel_channel(kind: u32, salinity: f32, temperature: f32, pressure: f32, out: *mut [i64; 8]) -> u32;
+            pub fn warpsorrel_channel(kind: u32, probe: u16, salinity: f32, temperature: f32, pressure: f32, out: *mut [i64; 8]) -> u32;
             pub fn warpsorrel_co2(kind: u32, salinity: f32, temperature: f32, pressure: f32, out: *mut i64) -> u32;
             pub fn warpsorrel_needle(
-                left_kind: u32, left_salinity: f32, left_temperature: f32, left_pressure: f32,
-                right_kind: u32, right_salinity: f32, right_temperature: f32, right_pressure: f32,
+                left_kind: u32, left_probe: u16, left_salinity: f32, left_temperature: f32, left_pressure: f32,
+                right_kind: u32, right_probe: u16, right_salinity: f32, right_temperature: f32, right_pressure: f32,
                 out: *mut [i64; 3],
             ) -> u32;
             pub fn warpsorrel_recorder(shown: u32) -> f32;
             pub fn warpsorrel_line(
                 number: u32,
-                left_kind: u32, left_salinity: f32, left_temperature: f32, left_pressure: f32,
-                right_kind: u32, right_salinity: f32, right_temperature: f32, right_pressure: f32,
+                left_kind: u32, left_probe: u16, left_salinity: f32, left_temperature: f32, left_pressure: f32,
+                right_kind: u32, right_probe: u16, right_salinity: f32, right_temperature: f32, right_pressure: f32,
                 out: *mut u8, room: usize, count: *mut usize,
             ) -> u32;
             pub fn warpsorrel_pairs(stream: *const u8, length: usize) -> usize;
@@ -30,14 +30,14 @@ mod panel {
     }
 
     /// The version that these declarations were written for.
-    pub const VERSION: u32 = 3;
+    pub const VERSION: u32 = 4;
 
     /// The version of the library.
     pub fn version() -> u32 {
         unsafe { abi::warpsorrel_version() }
     }
 
-    /// Why something is refused, in words; a needle's refusal has its side before them.
+    /// Why something is refused, in words; a needle's refusal has its side before them, if it is a side's.
     pub fn words(refusal: u32) -> String {
         let words = match refusal % 100 {
             1 => "missing",
@@ -46,10 +46,11 @@ mod panel {
             4 => "the temperature is not from -2 to 40 degrees C",
             5 => "the pressure is not from 0 to 1,000 bar",
             6 => "the record is cut short",
-            7 => "the kind is none of 1, 2, 3",
+            7 => "the kind is none of 1, 2, 3, 17, 18, 19",
             8 => "the length is not the kind's own",
             30 => "the room is too small",
             31 => "the pair number is not from 1 to 9,999",
+            32 => "both sides have the same probe number, other than 0",
             _ => "no refusal of this version",
         };
         match refusal / 100 {
@@ -122,40 +123,41 @@ mod panel {
         Root { refusal, root, bit, rest, so_far }
     }
 
-    /// A probe's report, or why its record gave none.
+    /// A probe's report with the probe's number, 0 for a probe without one; or why its record gave none.
     #[derive(Clone, Copy)]
     pub enum Report {
-        Deep { salinity: f32, temperature: f32, pressure: f32 },
-        Surface { salinity: f32, temperature: f32 },
-        Missing,
+        Deep { probe: u16, salinity: f32, temperature: f32, pressure: f32 },
+        Surface { probe: u16, salinity: f32, temperature: f32 },
+        Missing { probe: u16 },
         Cut,
         UnknownKind,
         WrongLength,
     }
 
     impl Report {
-        fn parts(self) -> (u32, f32, f32, f32) {
+        /// The kinds 17, 18 and 19 of records with a number say no more here: the number goes over by itself.
+        fn parts(self) -> (u32, u16, f32, f32, f32) {
             match self {
-                Report::Deep { salinity, temperature, pressure } => (1, salinity, temperature, pressure),
-                Report::Surface { salinity, temperature } => (2, salinity, temperature, f32::NAN), // a pressure that is not read
-                Report::Missing => (3, 0.0, 0.0, 0.0),
-                Report::Cut => (65_542, 0.0, 0.0, 0.0),
-                Report::UnknownKind => (65_543, 0.0, 0.0, 0.0),
-                Report::WrongLength => (65_544, 0.0, 0.0, 0.0),
+                Report::Deep { probe, salinity, temperature, pressure } => (1, probe, salinity, temperature, pressure),
+                Report::Surface { probe, salinity, temperature } => (2, probe, salinity, temperature, f32::NAN), // a pressure that is not read
+                Report::Missing { probe } => (3, probe, 0.0, 0.0, 0.0),
+                Report::Cut => (65_542, 0, 0.0, 0.0, 0.0),
+                Report::UnknownKind => (65_543, 0, 0.0, 0.0, 0.0),
+                Report::WrongLength => (65_544, 0, 0.0, 0.0, 0.0),
             }
         }
 
         pub fn channel(self) -> Channel {
-            let (kind, salinity, temperature, pressure) = self.parts();
+            let (kind, probe, salinity, temperature, pressure) = self.parts();
             let mut out = [0; 8];
-            let refusal = unsafe { abi::warpsorrel_channel(kind, salinity, temperature, pressure, &mut out) };
+            let refusal = unsafe { abi::warpsorrel_channel(kind, probe, salinity, temperature, pressure, &mut out) };
             let [sigma, tau, pi, density, bulk, remarks @ ..] = out;
             Channel { refusal, at: Grid { sigma, tau, pi }, density, bulk, remarks }
         }
 
-        /// How much carbon dioxide the water will hold. The pressure is not read.
+        /// How much carbon dioxide the water will hold. The pressure is not read, and the probe's number has no part in it.
         pub fn co2(self) -> Co2 {
-            let (kind, salinity, temperature, pressure) = self.parts();
+            let (kind, _, salinity, temperature, pressure) = self.parts();
             let mut ln_k0 = 0;
             let refusal = unsafe { abi::warpsorrel_co2(kind, salinity, temperature, pressure, &mut ln_k0) };
             Co2 { refusal, ln_k0 }
@@ -194,7 +196,7 @@ mod panel {
     pub fn needle(left: Report, right: Report) -> Needle {
         let (l, r) = (left.parts(), right.parts());
         let mut out = [0; 3];
-        let refusal = unsafe { abi::warpsorrel_needle(l.0, l.1, l.2, l.3, r.0, r.1, r.2, r.3, &mut out) };
+        let refusal = unsafe { abi::warpsorrel_needle(l.0, l.1, l.2, l.3, l.4, r.0, r.1, r.2, r.3, r.4, &mut out) };
         let [left, right, value] = out;
         Needle { refusal, left, right, value }
     }
@@ -213,7 +215,7 @@ mod panel {
         let (l, r) = (left.parts(), right.parts());
         let mut count = 0;
         let refusal = unsafe {
-            abi::warpsorrel_line(number, l.0, l.1, l.2, l.3, r.0, r.1, r.2, r.3, out.as_mut_ptr(), out.len(), &mut count)
+            abi::warpsorrel_line(number, l.0, l.1, l.2, l.3, l.4, r.0, r.1, r.2, r.3, r.4, out.as_mut_ptr(), out.len(), &mut count)
         };
         written(refusal, out, count)
     }
@@ -338,6 +340,15 @@ fn show_page(stream: &[u8], room: usize) {
     show_text("page", room, panel::page(stream, &mut out));
 }
 
+fn show_stream(stream: &[u8]) {
+    let pairs = panel::pairs(stream);
+    println!("stream of {} bytes: {} pairs", stream.len(), pairs);
+    for before in 0..=pairs {
+        show_pair(stream, before);
+    }
+    show_page(stream, panel::PAGE);
+}
+
 fn main() {
     assert_eq!(panel::version(), panel::VERSION, "the library is of another version than this program was written for");
     println!("version {}", panel::version());
@@ -350,24 +361,33 @@ fn main() {
     show_root(0, 0);
     show_root(42_001, 16);
 
-    let fjord = ("fjord", Report::Surface { salinity: 28.5, temperature: 12.25 });
-    let deep = ("deep", Report::Deep { salinity: 34.25, temperature: 7.5, pressure: 4.0 });
-    let shallow = ("shallow", Report::Deep { salinity: 34.25, temperature: 7.5, pressure: 0.4 }); // the deep one's water
-    let brine = ("brine", Report::Deep { salinity: 42.25, temperature: 7.5, pressure: 4.0 });
-    let none = ("none", Report::Missing);
-    let broken = ("broken", Report::Surface { salinity: f32::NAN, temperature: 7.5 });
-    let hot = ("hot", Report::Surface { salinity: 34.25, temperature: 40.5 });
-    let abyss = ("abyss", Report::Deep { salinity: 34.25, temperature: 7.5, pressure: 1_000.5 });
-    let frost = ("frost", Report::Surface { salinity: 34.25, temperature: -1.0 });
-    let blind = ("blind", Report::Deep { salinity: 34.25, temperature: 7.5, pressure: f32::NAN }); // the deep one's water, its depth not known
+    let fjord = ("fjord", Report::Surface { probe: 0, salinity: 28.5, temperature: 12.25 });
+    let deep = ("deep", Report::Deep { probe: 0, salinity: 34.25, temperature: 7.5, pressure: 4.0 });
+    let shallow = ("shallow", Report::Deep { probe: 0, salinity: 34.25, temperature: 7.5, pressure: 0.4 }); // the deep one's water
+    let brine = ("brine", Report::Deep { probe: 0, salinity: 42.25, temperature: 7.5, pressure: 4.0 });
+    let none = ("none", Report::Missing { probe: 0 });
+    let broken = ("broken", Report::Surface { probe: 0, salinity: f32::NAN, temperature: 7.5 });
+    let hot = ("hot", Report::Surface { probe: 0, salinity: 34.25, temperature: 40.5 });
+    let abyss = ("abyss", Report::Deep { probe: 0, salinity: 34.25, temperature: 7.5, pressure: 1_000.5 });
+    let frost = ("frost", Report::Surface { probe: 0, salinity: 34.25, temperature: -1.0 });
+    // The deep one's water, its depth not known.
+    let blind = ("blind", Report::Deep { probe: 0, salinity: 34.25, temperature: 7.5, pressure: f32::NAN });
     // Off the grid: no 32-bit float is just 5.1, 33.9 or -1.1, and 0.004 bar goes to 0.00. A surface's pressure is not read: it is on.
-    let bench = ("bench", Report::Deep { salinity: 35.0, temperature: 5.1, pressure: 0.004 });
-    let winter = ("winter", Report::Surface { salinity: 33.9, temperature: -1.1 });
+    let bench = ("bench", Report::Deep { probe: 0, salinity: 35.0, temperature: 5.1, pressure: 0.004 });
+    let winter = ("winter", Report::Surface { probe: 0, salinity: 33.9, temperature: -1.1 });
+    // Numbered probes: the fjord's water and the deep one's again, whose channels do not depend on the number; probe 17 in the other's place as well;
+    // and probe 17 does not answer.
+    let upper = ("upper", Report::Surface { probe: 17, salinity: 28.5, temperature: 12.25 });
+    let lower = ("lower", Report::Deep { probe: 18, salinity: 34.25, temperature: 7.5, pressure: 4.0 });
+    let twice = ("twice", Report::Deep { probe: 17, salinity: 34.25, temperature: 7.5, pressure: 4.0 });
+    let lost = ("lost", Report::Missing { probe: 17 });
     // Records that gave no reading have a channel, and a place on a line, too.
     let cut = ("cut", Report::Cut);
     let unknown = ("unknown", Report::UnknownKind);
     let length = ("length", Report::WrongLength);
-    let every = [fjord, deep, none, broken, brine, hot, abyss, frost, blind, bench, winter, cut, unknown, length];
+    let every = [
+        fjord, deep, none, broken, brine, hot, abyss, frost, blind, bench, winter, upper, lower, twice, lost, cut, unknown, length,
+    ];
     every.into_iter().for_each(show_channel);
     // The frost has a density and no ln K0; the abyss and the blind one, whose pressures are refused, have the deep one's ln K0 and no density.
     every.into_iter().for_each(show_co2);
@@ -376,6 +396,10 @@ fn main() {
     show_needle(shallow, deep);
     show_needle(fjord, brine);
     show_needle(none, deep);
+    // Two probes, and one in both sockets: no needle, and both densities all the same. A side that is refused comes first.
+    show_needle(upper, lower);
+    show_needle(upper, twice);
+    show_needle(lost, twice);
     show_recorder(deep.1.channel().density as u32);
     show_recorder(16_384_000);
 
@@ -384,6 +408,8 @@ fn main() {
     show_line(2, fjord, cut, panel::LINE);
     show_line(3, length, deep, panel::LINE);
     show_line(4, unknown, none, panel::LINE);
+    show_line(5, upper, lower, panel::LINE);
+    show_line(6, upper, twice, panel::LINE);
     show_line(1, fjord, deep, panel::LINE - 1);
     show_line(10_000, fjord, deep, panel::LINE);
     show_line(0, fjord, deep, panel::LINE);
@@ -392,11 +418,14 @@ fn main() {
         0x08, 0, 2, 0, 0, 0, 0, 0, 0, 0, 0xA0, 0x40, 0x08, 0, 2, 0, 0, 0, 0x0C, 0x42, 0, 0, 0xA0, 0x40, //
         0x00, 0, 3, 0, 0x08, 0, 2, 0, 0, 0, 0, 0, 0, 0, 0xA0, 0x40,
     ];
-    let pairs = panel::pairs(&stream);
-    println!("stream of {} bytes: {} pairs", stream.len(), pairs);
-    for before in 0..=pairs {
-        show_pair(&stream, before);
-    }
-    show_page(&stream, panel::PAGE);
+    show_stream(&stream);
     show_page(&stream, panel::PAGE - 1);
+
+    // Records with a probe's number: 513 in both sockets, then 513 and 514, then 513 missing.
+    let numbered = [
+        0x0A, 0, 18, 0, 1, 2, 0, 0, 0, 0, 0, 0, 0xA0, 0x40, 0x0A, 0, 18, 0, 1, 2, 0, 0, 0x0C, 0x42, 0, 0, 0xA0, 0x40, //
+        0x0A, 0, 18, 0, 1, 2, 0, 0, 0, 0, 0, 0, 0xA0, 0x40, 0x0A, 0, 18, 0, 2, 2, 0, 0, 0x0C, 0x42, 0, 0, 0xA0, 0x40, //
+        0x02, 0, 19, 0, 1, 2, 0x0E, 0, 17, 0, 2, 2, 0, 0, 0x0C, 0x42, 0, 0, 0xA0, 0x40, 0, 0, 0xC8, 0x42,
+    ];
+    show_stream(&numbered);
 }

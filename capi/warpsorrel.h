@@ -27,26 +27,28 @@ extern "C" {
 #endif
 
 /* ---- The version of what is declared here. It goes up when a call that was there changes what it takes or what it answers; new calls alone do
- * not raise it. A program that loads the library at run time asks once, at its start, and goes on only with the number that it was written for. */
-#define WARPSORREL_VERSION 3u
+ * not raise it. A program that loads the library at run time asks once, at its start, and goes on only with the number that it was written for:
+ * one written for an earlier version hands over no probe number, so that the library would take its out for one and write somewhere else. */
+#define WARPSORREL_VERSION 4u
 
 /* The version of the library: WARPSORREL_VERSION, if the two belong together. */
 uint32_t warpsorrel_version(void);
 
 /* ---- Refusals; 0 is none. Of several the first of 6, 7, 8, 1, 2, 3, 4, 5 is answered. 30 and 31 are for a line or a page that is not written,
- * and there 30 comes first. */
+ * and there 30 comes first. 32 is a needle's alone, where neither side is refused: one probe is in both sockets. */
 #define WARPSORREL_REFUSED_MISSING 1u      /* missing */
 #define WARPSORREL_REFUSED_NOT_FINITE 2u   /* a NaN or an infinity */
 #define WARPSORREL_REFUSED_SALINITY 3u     /* the salinity is not from 0 to 42 */
 #define WARPSORREL_REFUSED_TEMPERATURE 4u  /* the temperature is not from -2 to 40 degrees C; for warpsorrel_co2: from 0 to 40 */
 #define WARPSORREL_REFUSED_PRESSURE 5u     /* the pressure is not from 0 to 1,000 bar */
 #define WARPSORREL_REFUSED_CUT 6u          /* the record is cut short */
-#define WARPSORREL_REFUSED_KIND 7u         /* the kind is none of 1, 2, 3 */
+#define WARPSORREL_REFUSED_KIND 7u         /* the kind is none of 1, 2, 3, 17, 18, 19 */
 #define WARPSORREL_REFUSED_LENGTH 8u       /* the length is not the kind's own */
 #define WARPSORREL_REFUSED_ROOM 30u        /* the room is too small */
 #define WARPSORREL_REFUSED_PAIR_NUMBER 31u /* the pair number is not from 1 to 9,999 */
+#define WARPSORREL_REFUSED_SAME_PROBE 32u  /* both sides have the same probe number, other than 0 */
 
-/* A needle's refusal is one of these plus the refusal of that side, 1 to 8: 103 is "left: the salinity is not from 0 to 42". */
+/* Every other refusal of a needle is one of these plus the refusal of that side, 1 to 8: 103 is "left: the salinity is not from 0 to 42". */
 #define WARPSORREL_REFUSED_LEFT 100u
 #define WARPSORREL_REFUSED_RIGHT 200u
 
@@ -70,10 +72,18 @@ uint32_t warpsorrel_root(int64_t sigma, uint32_t trials, uint64_t out[4]);
 
 /* ---- Reports: practical salinity, temperature in degrees C, pressure in bar above the atmosphere. The kind is a record's: deep, surface
  * (the pressure is taken as 0 and its float not read), missing (no float is read). Three more, which no record has for a kind, stand for a
- * record that gave no reading: CUT for refusal 6, LENGTH for 8, UNKNOWN for 7 (no float is read). Every other kind is refused by 7 too. */
+ * record that gave no reading: CUT for refusal 6, LENGTH for 8, UNKNOWN for 7 (no float is read). Every other kind is refused by 7 too.
+ *
+ * The probe's number is from 0 to 65,535, and 0 is that of a probe without one. It changes nothing of a channel; it only keeps a needle from
+ * comparing a probe with itself, and two with 0 are compared. C cuts a greater number off in silence: 65,536 would come as 0. The numbered kinds
+ * are those of records that carry a number. To a call they mean the same as the three before them, since it takes the number from its argument:
+ * kind 1 with number 513 and kind 17 with it are one report. For a record of kind 1, 2 or 3, which carries none, give 0. */
 #define WARPSORREL_DEEP 1u
 #define WARPSORREL_SURFACE 2u
 #define WARPSORREL_MISSING 3u
+#define WARPSORREL_NUMBERED_DEEP 17u
+#define WARPSORREL_NUMBERED_SURFACE 18u
+#define WARPSORREL_NUMBERED_MISSING 19u
 #define WARPSORREL_CUT 65542u
 #define WARPSORREL_UNKNOWN 65543u
 #define WARPSORREL_LENGTH 65544u
@@ -88,22 +98,22 @@ uint32_t warpsorrel_root(int64_t sigma, uint32_t trials, uint64_t out[4]);
 /* 0, or the refusal: 6, 7, 8 by the kind, 1 missing, 2 a NaN or an infinity, 3, 4, 5 outside the range of the salinity, the temperature,
  * the pressure. out gets sigma, tau, pi, the density and the bulk modulus, then the remarks of the salinity, the temperature and the pressure;
  * eight noughts if refused. A surface report's pressure is always on. The density is within 0.0014 kg/m3 of the published formula at the floats
- * as they were sent, and within 0.0006 at sigma, tau, pi. A program written for version 2 lends five numbers: the three after them would be
- * overwritten. */
-uint32_t warpsorrel_channel(uint32_t kind, float salinity, float temperature, float pressure, int64_t out[8]);
+ * as they were sent, and within 0.0006 at sigma, tau, pi. The answer is the same for every probe number. */
+uint32_t warpsorrel_channel(uint32_t kind, uint16_t probe, float salinity, float temperature, float pressure, int64_t out[8]);
 
 /* How much carbon dioxide the water will hold: ln K0 of Weiss (1974). 0, or the refusal: 6, 7, 8 by the kind, 1 missing, 2 a NaN or an infinity
  * in the salinity or the temperature, 3 a salinity that is not from 0 to 42, 4 a temperature that is not from 0 to 40 degrees C. The pressure is
  * not read, of a deep report either: whatever it is, a NaN too, the answer is the same. out gets ln K0 in millionths, within 2 of the published
- * equation at sigma and tau; 0 if refused. K0, in mol/(kg atm), is exp(*out / 1e6). */
+ * equation at sigma and tau; 0 if refused. K0, in mol/(kg atm), is exp(*out / 1e6). No probe number is taken: it would change nothing. */
 uint32_t warpsorrel_co2(uint32_t kind, float salinity, float temperature, float pressure, int64_t *out);
 
-/* 0, or 100 plus the left's refusal, otherwise 200 plus the right's. out gets the left density and the right density, each at its own pressure
- * (0 where that one is refused), and the needle: right minus left in 0.001 kg/m3, both waters at the greater of the two pressures, plus where the
- * right is heavier; 0 if refused. Where the pressures differ, the needle need not be the difference of the two densities beside it. A needle of 3
- * or more, either way, names the heavier of the two waters as they were sent, by the published formula; 2 does so of the two on the grid alone. */
-uint32_t warpsorrel_needle(uint32_t left_kind, float left_salinity, float left_temperature, float left_pressure,
-                           uint32_t right_kind, float right_salinity, float right_temperature, float right_pressure,
+/* 0, or 100 plus the left's refusal, otherwise 200 plus the right's, otherwise 32 where both have the same probe number, other than 0. out gets the
+ * left density and the right density, each at its own pressure (0 where that one is refused; at 32 both are given), and the needle: right minus
+ * left in 0.001 kg/m3, both waters at the greater of the two pressures, plus where the right is heavier; 0 if refused, by 32 too. Where the
+ * pressures differ, the needle need not be the difference of the two densities beside it. A needle of 3 or more, either way, names the heavier of
+ * the two waters as they were sent, by the published formula; 2 does so of the two on the grid alone. */
+uint32_t warpsorrel_needle(uint32_t left_kind, uint16_t left_probe, float left_salinity, float left_temperature, float left_pressure,
+                           uint32_t right_kind, uint16_t right_probe, float right_salinity, float right_temperature, float right_pressure,
                            int64_t out[3]);
 
 /* The recorder's float of a shown density, in kg/m3: shown / 1000 below 16,384,000, where it stands for shown alone; else 0. */
@@ -113,11 +123,12 @@ float warpsorrel_recorder(uint32_t shown);
 #define WARPSORREL_LINE 32
 
 /* The sheet's line of two reports and a pair number, at the start of out: number, left density, right density and needle as warpsorrel_needle
- * gives them, a line feed; a refused place shows R and its number. 0, and count gets the bytes written; the bytes past them keep their values.
- * Or the refusal: 30 for a room under WARPSORREL_LINE, then 31 for a pair number of 0 or over 9,999; count gets 0 then, and out is untouched. */
+ * gives them, a line feed; a refused place shows R and its number: "1 1027675 997048 R32" where both sides are one probe. 0, and count gets the
+ * bytes written; the bytes past them keep their values. Or the refusal: 30 for a room under WARPSORREL_LINE, then 31 for a pair number of 0 or
+ * over 9,999; count gets 0 then, and out is untouched. */
 uint32_t warpsorrel_line(uint32_t number,
-                         uint32_t left_kind, float left_salinity, float left_temperature, float left_pressure,
-                         uint32_t right_kind, float right_salinity, float right_temperature, float right_pressure,
+                         uint32_t left_kind, uint16_t left_probe, float left_salinity, float left_temperature, float left_pressure,
+                         uint32_t right_kind, uint16_t right_probe, float right_salinity, float right_temperature, float right_pressure,
                          uint8_t *out, size_t room, size_t *count);
 
 /* ---- Streams of records, as the panel's probes write them (docs/FORMAT.md). */

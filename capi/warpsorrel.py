@@ -31,6 +31,12 @@ a probe sends them: the nearest, and one too large for that becomes an infinity.
 Each float of an accepted reading has a Remark: whether the 32-bit float, not Python's own, lies below, on or above its grid point. Only multiples of
 1/8 can be on it, of a pressure multiples of 1/4: 35 is, and the 32-bit float nearest to 5.1 lies below.
 
+A report may carry the number of its probe, 1 to 65,535, so that one probe in both sockets is noticed. The needle is refused then, and both densities
+are given all the same; nothing else depends on the number:
+
+    same = panel.needle(Report.surface(28.5, 12.25, probe=17), Report.deep(34.25, 7.5, 4, probe=17))
+    print(same.left, same.right, same.refusal.reason)    # 1021502 1026941 both sides have the same probe number, other than 0
+
 Threads may share a Panel: it keeps nothing between calls.
 """
 from __future__ import annotations
@@ -38,7 +44,7 @@ from __future__ import annotations
 import ctypes
 import os
 import platform
-from ctypes import POINTER, c_char_p, c_float, c_int64, c_size_t, c_uint32, c_uint64
+from ctypes import POINTER, c_char_p, c_float, c_int64, c_size_t, c_uint16, c_uint32, c_uint64
 from enum import IntEnum
 from operator import index
 from pathlib import Path
@@ -50,7 +56,7 @@ __all__ = [
     "Side", "Pair", "Written", "LibraryError", "Panel",
 ]
 
-VERSION = 3
+VERSION = 4
 """The version of the C ABI that this module was written for."""
 
 LINE = 32
@@ -64,11 +70,15 @@ Stream = Union[bytes, bytearray, memoryview]
 
 
 class Kind(IntEnum):
-    """What a report is. The last three stand for a record that gave no reading; no record has them."""
+    """What a report is. A numbered kind is that of a record which carries its probe's number; to the panel it means the same as the kind without
+    NUMBERED, since the number stands in the report. The last three stand for a record that gave no reading; no record has them."""
 
     DEEP = 1  # salinity, temperature and pressure
     SURFACE = 2  # salinity and temperature; the pressure is taken as 0
     MISSING = 3  # the probe is missing
+    NUMBERED_DEEP = 17  # the probe's number, and what DEEP has
+    NUMBERED_SURFACE = 18  # the probe's number, and what SURFACE has
+    NUMBERED_MISSING = 19  # the probe's number alone
     CUT = 65_542  # refused by 6
     UNKNOWN = 65_543  # refused by 7, as is every kind that is not listed here
     LENGTH = 65_544  # refused by 8
@@ -78,7 +88,8 @@ class Refusal(IntEnum):
     """Why something is refused: the number that the panel answers, and its words in `reason`. NONE is false, every other one is true.
 
     Of several the first of 6, 7, 8, 1, 2, 3, 4, 5 is answered. A needle's number is 100 plus the left's or, if only the right is refused,
-    200 plus the right's. ROOM and PAIR_NUMBER are for a line or a page that is not written.
+    200 plus the right's or, if neither is, SAME_PROBE where both have the same probe number, other than 0. ROOM and PAIR_NUMBER are for a line or a
+    page that is not written.
     """
 
     NONE = 0
@@ -92,6 +103,7 @@ class Refusal(IntEnum):
     LENGTH = 8
     ROOM = 30
     PAIR_NUMBER = 31
+    SAME_PROBE = 32
     LEFT_MISSING = 101
     LEFT_NOT_FINITE = 102
     LEFT_SALINITY = 103
@@ -111,12 +123,12 @@ class Refusal(IntEnum):
 
     @property
     def side(self) -> Optional[str]:
-        """The side that refuses a needle, "left" or "right"; None for a refusal that is not a needle's."""
+        """The side that refuses a needle, "left" or "right"; None for SAME_PROBE, where neither does, and for a refusal that is not a needle's."""
         return {1: "left", 2: "right"}.get(self // 100)
 
     @property
     def cause(self) -> Refusal:
-        """What that side's own channel answers, such as SALINITY for RIGHT_SALINITY; itself for a refusal that is not a needle's."""
+        """What that side's own channel answers, such as SALINITY for RIGHT_SALINITY; itself for a refusal that has no side."""
         return Refusal(self % 100)
 
     @property
@@ -134,10 +146,11 @@ _REASONS = {
     Refusal.TEMPERATURE: "the temperature is not from -2 to 40 degrees C",
     Refusal.PRESSURE: "the pressure is not from 0 to 1,000 bar",
     Refusal.CUT: "the record is cut short",
-    Refusal.KIND: "the kind is none of 1, 2, 3",
+    Refusal.KIND: "the kind is none of 1, 2, 3, 17, 18, 19",
     Refusal.LENGTH: "the length is not the kind's own",
     Refusal.ROOM: "the room is too small",
     Refusal.PAIR_NUMBER: "the pair number is not from 1 to 9,999",
+    Refusal.SAME_PROBE: "both sides have the same probe number, other than 0",
 }
 
 
@@ -182,28 +195,31 @@ class Report(NamedTuple):
     kind         a Kind; every other number is refused by 7
     salinity     practical salinity, accepted from 0 to 42
     temperature  degrees C, accepted from -2 to 40; by Panel.co2 from 0 to 40
-    pressure     bar above the atmosphere, accepted from 0 to 1,000; read where the kind is DEEP, and not by Panel.co2
+    pressure     bar above the atmosphere, accepted from 0 to 1,000; read where the kind is DEEP or NUMBERED_DEEP, and not by Panel.co2
+    probe        the probe's number, 0 to 65,535; 0 for a probe without one. It counts whichever kind the report has: DEEP with 17 here and
+                 NUMBERED_DEEP with it are the same to the panel
     """
 
     kind: int
     salinity: float = 0.0
     temperature: float = 0.0
     pressure: float = 0.0
+    probe: int = 0
 
     @classmethod
-    def deep(cls, salinity: float, temperature: float, pressure: float) -> Report:
+    def deep(cls, salinity: float, temperature: float, pressure: float, *, probe: int = 0) -> Report:
         """A reading of practical salinity, temperature in degrees C and pressure in bar above the atmosphere."""
-        return cls(Kind.DEEP, salinity, temperature, pressure)
+        return cls(Kind.DEEP, salinity, temperature, pressure, probe)
 
     @classmethod
-    def surface(cls, salinity: float, temperature: float) -> Report:
+    def surface(cls, salinity: float, temperature: float, *, probe: int = 0) -> Report:
         """A reading of practical salinity and temperature in degrees C, at a pressure of 0 bar above the atmosphere."""
-        return cls(Kind.SURFACE, salinity, temperature)
+        return cls(Kind.SURFACE, salinity, temperature, probe=probe)
 
     @classmethod
-    def missing(cls) -> Report:
+    def missing(cls, *, probe: int = 0) -> Report:
         """No reading: the probe is missing."""
-        return cls(Kind.MISSING)
+        return cls(Kind.MISSING, probe=probe)
 
 
 class Remark(IntEnum):
@@ -267,7 +283,8 @@ class Co2(NamedTuple):
 class Needle(NamedTuple):
     """Two waters compared.
 
-    left, right  their densities in 0.001 kg/m3, each at its own pressure; 0 for one that is refused
+    refusal      NONE, a side's, or SAME_PROBE where one probe is on both sides
+    left, right  their densities in 0.001 kg/m3, each at its own pressure; 0 for one that is refused. At SAME_PROBE both are given
     value        right minus left in 0.001 kg/m3, both waters at the greater of the two pressures, plus where the right is heavier; 0 if refused.
                  3 or more, either way, names the heavier of the two waters as they were sent (2 does so on the grid); below that take them for
                  alike. Where the pressures differ, it need not be the difference of `left` and `right`
@@ -289,7 +306,7 @@ class Side(NamedTuple):
 
 class Pair(NamedTuple):
     """A pair of a stream, each side at its own pressure; `needle` is right minus left in 0.001 kg/m3, both waters at the greater of the two
-    pressures, plus where the right is heavier, and 0 if it is refused."""
+    pressures, plus where the right is heavier, and 0 if it is refused. Where SAME_PROBE refuses it, both sides are given."""
 
     left: Side
     right: Side
@@ -309,7 +326,8 @@ class LibraryError(Exception):
 
 
 # What each call answers, then what it takes: capi/warpsorrel.h.
-_REPORT = (c_uint32, c_float, c_float, c_float)
+_FLOATS = (c_float, c_float, c_float)
+_REPORT = (c_uint32, c_uint16, *_FLOATS)
 _BYTES = (c_char_p, c_size_t)
 _CALLS: dict[str, tuple[Any, ...]] = {
     "version": (c_uint32,),
@@ -318,7 +336,7 @@ _CALLS: dict[str, tuple[Any, ...]] = {
     "bulk": (c_uint32, c_int64, c_int64, c_int64),
     "root": (c_uint32, c_int64, c_uint32, POINTER(c_uint64 * 4)),
     "channel": (c_uint32, *_REPORT, POINTER(c_int64 * 8)),
-    "co2": (c_uint32, *_REPORT, POINTER(c_int64)),
+    "co2": (c_uint32, c_uint32, *_FLOATS, POINTER(c_int64)),
     "needle": (c_uint32, *_REPORT, *_REPORT, POINTER(c_int64 * 3)),
     "recorder": (c_float, c_uint32),
     "line": (c_uint32, c_uint32, *_REPORT, *_REPORT, *_BYTES, POINTER(c_size_t)),
@@ -386,9 +404,9 @@ def _unsigned(what: str, value: SupportsIndex) -> int:
     return _whole(what, value, 0, 2**32 - 1)
 
 
-def _parts(report: Report) -> tuple[int, c_float, c_float, c_float]:
-    kind, salinity, temperature, pressure = report
-    return _unsigned("kind", kind), c_float(salinity), c_float(temperature), c_float(pressure)
+def _parts(report: Report) -> tuple[int, int, c_float, c_float, c_float]:
+    kind, salinity, temperature, pressure, probe = report
+    return _unsigned("kind", kind), _whole("probe", probe, 0, 2**16 - 1), c_float(salinity), c_float(temperature), c_float(pressure)
 
 
 def _bytes(stream: Stream) -> bytes:
@@ -445,19 +463,21 @@ class Panel:
     # ---- reports
 
     def channel(self, report: Report) -> Channel:
-        """What the panel makes of one report."""
+        """What the panel makes of one report; the same for every probe number."""
         out = (c_int64 * 8)()
         refusal = self._calls.channel(*_parts(report), out)
         return Channel(Refusal(refusal), *out[:5], None if refusal else Remarks(*map(Remark, out[5:])))
 
     def co2(self, report: Report) -> Co2:
-        """How much carbon dioxide the water of one report will hold. Its pressure is not read."""
+        """How much carbon dioxide the water of one report will hold. Its pressure is not read, and its probe's number changes nothing."""
         out = c_int64()
-        refusal = self._calls.co2(*_parts(report), ctypes.byref(out))
+        kind, _, *floats = _parts(report)
+        refusal = self._calls.co2(kind, *floats, ctypes.byref(out))
         return Co2(Co2Refusal(refusal), out.value)
 
     def needle(self, left: Report, right: Report) -> Needle:
-        """Two reports compared: right minus left in 0.001 kg/m3, both waters at the greater of the two pressures."""
+        """Two reports compared: right minus left in 0.001 kg/m3, both waters at the greater of the two pressures. Refused by a side's refusal, or by
+        SAME_PROBE where both have the same probe number, other than 0."""
         out = (c_int64 * 3)()
         refusal = self._calls.needle(*_parts(left), *_parts(right), out)
         return Needle(Refusal(refusal), *out)

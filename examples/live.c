@@ -1,4 +1,4 @@
-/* Watches two probes: a line of standard input is a pair, left then right, as KIND SALINITY TEMPERATURE PRESSURE each. */
+/* Watches two probes: a line of standard input is a pair, left then right, as KIND PROBE SALINITY TEMPERATURE PRESSURE each. */
 #include <inttypes.h>
 #include <stdio.h>
 #include "warpsorrel.h"
@@ -6,12 +6,14 @@
 int main(void) {
     char line[256], more[2];
     while (fgets(line, sizeof line, stdin)) {
-        uint32_t left, right; /* kinds: 1 deep, 2 surface, 3 missing */
+        uint32_t left, right; /* kinds: 1 deep, 2 surface, 3 missing; 17, 18 and 19 say the same here */
+        uint32_t lprobe = 0, rprobe = 0; /* the probes' numbers, to 65,535; 0 for a probe without one */
         float ls = 0, lt = 0, lp = 0, rs = 0, rt = 0, rp = 0;
         int64_t out[3]; /* the densities, each at its own pressure, and the needle, at the greater of the two; in 0.001 kg/m3 */
-        if (sscanf(line, "%" SCNu32 "%f%f%f%" SCNu32 "%f%f%f%1s", &left, &ls, &lt, &lp, &right, &rs, &rt, &rp, more) != 8)
-            left = right = WARPSORREL_CUT; /* not the eight numbers: no reading */
-        uint32_t refused = warpsorrel_needle(left, ls, lt, lp, right, rs, rt, rp, out);
+        int found = sscanf(line, "%" SCNu32 "%" SCNu32 "%f%f%f%" SCNu32 "%" SCNu32 "%f%f%f%1s", &left, &lprobe, &ls, &lt, &lp,
+                           &right, &rprobe, &rs, &rt, &rp, more);
+        if (found != 10 || lprobe > UINT16_MAX || rprobe > UINT16_MAX) left = right = WARPSORREL_CUT; /* not the ten numbers: no reading */
+        uint32_t refused = warpsorrel_needle(left, (uint16_t)lprobe, ls, lt, lp, right, (uint16_t)rprobe, rs, rt, rp, out);
         if (refused) printf("no needle: R%" PRIu32 "\n", refused); /* before all else: a refused needle is 0 too */
         else if (imaxabs(out[2]) < 3) puts("alike");
         else printf("the %s is heavier by %.3f kg/m3\n", out[2] > 0 ? "right" : "left", imaxabs(out[2]) / 1000.0);

@@ -5,9 +5,11 @@
 #include <stddef.h>
 #include <stdint.h>
 
-/* What stands in a channel, as the C ABI takes it: a kind, and floats by their bits. A float that is not to be read is a NaN. */
+/* What stands in a channel, as the C ABI takes it: a kind, the probe's number, and floats by their bits. A float that is not to be read is a NaN. */
 struct oracle_report {
-    uint32_t kind, floats[3];
+    uint32_t kind;
+    uint16_t probe; /* 0 where the record has none */
+    uint32_t floats[3];
 };
 
 /* What a channel answers; noughts if refused. The remarks are of salinity, temperature, pressure: 1 below its grid point, 2 on it, 3 above it. */
@@ -53,8 +55,8 @@ struct oracle_co2 oracle_co2(const struct oracle_report *report);
 /* The published equation for ln K0 in doubles, of a report that is not refused, at its salinity and temperature on the grid. */
 double oracle_equation(const struct oracle_report *report);
 
-/* Both waters at the greater of the two pressures. */
-struct oracle_needle oracle_needle(const struct oracle_channel channels[2]);
+/* Both waters at the greater of the two pressures; of the reports the numbers alone are looked at. */
+struct oracle_needle oracle_needle(const struct oracle_report reports[2], const struct oracle_channel channels[2]);
 
 /* The published formula in doubles, of a report that is not refused, at the floats as sent: the pressure (bar; 0 at the surface), and the density
  * (kg/m3) with the water at a pressure. No mode that the processor rounds in changes it by as much as 10^-9. */
@@ -62,7 +64,7 @@ double oracle_pressure(const struct oracle_report *report);
 double oracle_formula(const struct oracle_report *report, double pressure);
 
 /* out has room for the longest line, the longest page. */
-size_t oracle_line(uint32_t number, const struct oracle_channel channels[2], uint8_t *out);
+size_t oracle_line(uint32_t number, const struct oracle_report reports[2], const struct oracle_channel channels[2], uint8_t *out);
 size_t oracle_page(const uint8_t *stream, size_t length, uint8_t *out);
 
 #endif

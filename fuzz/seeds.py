@@ -1,4 +1,4 @@
-"""seeds.py FOLDER: the streams that the fuzzer starts from: SPEC's example, each kind of record, each refusal of one, each remark."""
+"""seeds.py FOLDER: the streams that the fuzzer starts from: SPEC's example, each kind of record, each refusal of one, each remark, probe numbers."""
 import os
 import struct
 import sys
@@ -8,12 +8,16 @@ def record(kind, body=b"", length=None):
     return struct.pack("<HH", len(body) if length is None else length, kind) + body
 
 
-def deep(*floats):
-    return record(1, struct.pack("<3f", *floats))
+def deep(*floats, probe=None):
+    return record(1, struct.pack("<3f", *floats)) if probe is None else record(17, struct.pack("<H3f", probe, *floats))
 
 
-def surface(*floats):
-    return record(2, struct.pack("<2f", *floats))
+def surface(*floats, probe=None):
+    return record(2, struct.pack("<2f", *floats)) if probe is None else record(18, struct.pack("<H2f", probe, *floats))
+
+
+def missing(probe):
+    return record(19, struct.pack("<H", probe))
 
 
 MISSING = record(3)
@@ -39,6 +43,17 @@ SEEDS = {
     "cut-head": surface(35, 5) + b"\x08\x00",
     "cut-body": surface(35, 5) + record(1, b"abcd", 12),
     "odd": surface(35, 5),
+    # one probe on both sides, and swapped; two that differ in a byte, or in its place; no number on both sides, and on one
+    "one-probe": deep(35, 5, 100, probe=513) + surface(0, 25, probe=513) + surface(0, 25, probe=513) + deep(35, 5, 100, probe=513),
+    "two-probes": surface(35, 5, probe=513) + surface(35, 25, probe=258) + surface(35, 5, probe=1) + surface(35, 25, probe=257),
+    "high-bytes": surface(35, 5, probe=256) + surface(35, 25, probe=512) + surface(35, 5, probe=65535) + surface(35, 25, probe=65535),
+    "no-numbers": surface(35, 5, probe=0) + surface(35, 25, probe=0) + surface(35, 5, probe=513) + surface(35, 25),
+    # of one probe a side is missing or refused
+    "one-refused": missing(513) + surface(35, 5, probe=513) + deep(35, 5, 100, probe=513) + surface(35, 41, probe=513) + missing(513) + missing(513),
+    # each numbered kind with the length of its old one, and the other way round
+    "lengths": b"".join(record(kind, b"abcdefghijklmn"[:n]) for kind, n in ((17, 12), (18, 8), (19, 0), (1, 14), (2, 10), (3, 2))),
+    "kinds-beside": b"".join(record(kind, b"ab") for kind in (16, 20, 33, 273)),
+    "cut-number": surface(35, 5, probe=513) + record(19, b"a", 2),
 }
 
 folder = sys.argv[1]

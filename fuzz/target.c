@@ -1,6 +1,7 @@
 /* Every input is a stream. Held to the oracle: the count of pairs; the page, its refusal and its count; the first pair, the last, one past
  * the end and two picked by the input's bytes, each by all its words; and channels, needle and line of such a pair's reports, a channel at the
- * surface with another pressure as well; ln K0 of every report, with another pressure too; the root of every report's salinity, and of numbers
+ * surface with another pressure as well, all of them as of other probes too, whose numbers are often one and the same, and with the sides
+ * swapped; ln K0 of every report, with another pressure too; the root of every report's salinity, and of numbers
  * that are mostly off the grid, with a line of its search. The densities and the needle of such a pair are held as well to what is proved of them
  * beside the published formula at the floats as sent, ln K0 to its equation on the grid, a root to the squares on either side. The bytes and
  * words past an answer and beside it have to keep their values; a room that is too short has to be left untouched. The rounding mode and
@@ -77,25 +78,37 @@ static void compare_count(const char *what, size_t right) {
 
 struct report {
     uint32_t kind;
+    uint16_t probe;
     float salinity, temperature, pressure;
 };
 
-/* The bits as they are. An unknown kind is a record's own or, as often, the one that stands for all of them. */
+/* The bits as they are. An unknown kind is a record's own or, as often, the one that stands for all of them. A reading's kind is its record's or, as
+ * often, the other one, old or numbered, which means the same: the number is handed over beside it. */
 static struct report report_of(const struct oracle_report *from, uint32_t refusal) {
     struct report to;
-    to.kind = refusal == 7 && calls % 2 == 0 ? WARPSORREL_UNKNOWN : from->kind;
+    int is_reading = refusal < 6;
+    to.kind = refusal == 7 && calls % 2 == 0 ? WARPSORREL_UNKNOWN : is_reading && calls / 2 % 2 == 0 ? from->kind ^ 16 : from->kind;
+    to.probe = from->probe;
     memcpy(&to.salinity, &from->floats[0], 4);
     memcpy(&to.temperature, &from->floats[1], 4);
     memcpy(&to.pressure, &from->floats[2], 4);
     return to;
 }
 
-static void look_at_line(uint32_t number, struct report l, struct report r, const struct oracle_channel channels[2], size_t lent) {
+/* Two reports, as the oracle has them and as the library is given them, and the channels that they make. */
+struct two {
+    struct oracle_report reports[2];
+    struct oracle_channel channels[2];
+    struct report given[2];
+};
+
+static void look_at_line(uint32_t number, const struct two *two, size_t lent) {
+    struct report l = two->given[0], r = two->given[1];
     uint8_t right[64], *out = lent == 0 ? NULL : line_room + 64;
     uint32_t refusal = lent < WARPSORREL_LINE ? 30 : number == 0 || number > 9999 ? 31 : 0;
-    size_t count = refusal ? 0 : oracle_line(number, channels, right);
-    if (warpsorrel_line(number, l.kind, l.salinity, l.temperature, l.pressure, r.kind, r.salinity, r.temperature, r.pressure, out, lent,
-                        lend_count()) != refusal)
+    size_t count = refusal ? 0 : oracle_line(number, two->reports, two->channels, right);
+    if (warpsorrel_line(number, l.kind, l.probe, l.salinity, l.temperature, l.pressure, r.kind, r.probe, r.salinity, r.temperature, r.pressure, out,
+                        lent, lend_count()) != refusal)
         fail("the refusal of the line");
     compare_count("the count of the line", count);
     if (count > 0 && memcmp(out, right, count) != 0) fail("the line");
@@ -132,13 +145,50 @@ static uint32_t unread_pressure(void) {
 /* At the surface the pressure is not read, nor is it remarked on. */
 static void look_at_channel(struct report r, const struct oracle_channel *c) {
     int64_t right[8] = {c->sigma, c->tau, c->pi, c->density, c->bulk, c->remarks[0], c->remarks[1], c->remarks[2]};
-    if (warpsorrel_channel(r.kind, r.salinity, r.temperature, r.pressure, lend_words()) != c->refusal) fail("a channel's refusal");
+    if (warpsorrel_channel(r.kind, r.probe, r.salinity, r.temperature, r.pressure, lend_words()) != c->refusal) fail("a channel's refusal");
     compare_words("a channel", right, 8);
-    if (r.kind != WARPSORREL_SURFACE) return;
+    if (r.kind != WARPSORREL_SURFACE && r.kind != WARPSORREL_NUMBERED_SURFACE) return;
     uint32_t other = unread_pressure();
     memcpy(&r.pressure, &other, 4);
-    if (warpsorrel_channel(r.kind, r.salinity, r.temperature, r.pressure, lend_words()) != c->refusal) fail("a channel's refusal, another pressure");
+    if (warpsorrel_channel(r.kind, r.probe, r.salinity, r.temperature, r.pressure, lend_words()) != c->refusal)
+        fail("a channel's refusal, another pressure");
     compare_words("a channel, another pressure", right, 8);
+}
+
+static void look_at_needle(const struct two *two) {
+    struct report l = two->given[0], r = two->given[1];
+    struct oracle_needle n = oracle_needle(two->reports, two->channels);
+    int64_t right[3] = {two->channels[0].density, two->channels[1].density, n.value};
+    uint32_t refusal = warpsorrel_needle(l.kind, l.probe, l.salinity, l.temperature, l.pressure, r.kind, r.probe, r.salinity, r.temperature,
+                                         r.pressure, lend_words());
+    if (refusal != n.refusal) fail("the needle's refusal");
+    compare_words("the needle", right, 3);
+}
+
+/* Of two numbers: one and the same; 0 twice, or once; alike but for a bit, for the high byte, for the low byte; one with its bytes the other way
+ * round; any two. */
+static void draw_numbers(uint64_t drawn, uint16_t numbers[2]) {
+    uint16_t one = (uint16_t)(drawn >> 40 & 1 ? drawn % 4 : drawn), any = (uint16_t)(drawn >> 16);
+    uint16_t others[] = {one, one, one, 0, (uint16_t)(one ^ 1u << any % 16), (uint16_t)(one ^ any << 8), (uint16_t)(one ^ (any & 255)),
+                         (uint16_t)(one << 8 | one >> 8), any};
+    unsigned way = drawn >> 44 & 15, count = sizeof others / sizeof *others;
+    numbers[0] = way == count ? 0 : one;
+    numbers[1] = way == count ? 0 : others[way % count];
+}
+
+/* The same two as of other probes, and then swapped: the channels stay as they are. The line is written in a room of WARPSORREL_LINE. */
+static void look_at_probes(struct two two, uint32_t number, uint64_t drawn) {
+    uint16_t numbers[2];
+    draw_numbers(drawn, numbers);
+    for (int i = 0; i < 2; i++) {
+        two.reports[i].probe = two.given[i].probe = numbers[i];
+        look_at_channel(two.given[i], &two.channels[i]);
+    }
+    struct two swapped = {{two.reports[1], two.reports[0]}, {two.channels[1], two.channels[0]}, {two.given[1], two.given[0]}};
+    look_at_needle(&two);
+    look_at_needle(&swapped);
+    look_at_line(number, &two, WARPSORREL_LINE);
+    look_at_line(number, &swapped, WARPSORREL_LINE);
 }
 
 /* The pressure is not read: with the stream's own and with another, as deep and as surface, the answer is the same. Proved on the grid: within 2
@@ -150,7 +200,8 @@ static void look_at_co2(const struct oracle_report *report) {
     compare_words("ln K0", &right.value, 1);
     uint32_t other = unread_pressure();
     memcpy(&r.pressure, &other, 4);
-    if (r.kind == WARPSORREL_DEEP || r.kind == WARPSORREL_SURFACE) r.kind = 3 - r.kind;
+    uint32_t old = r.kind & ~16u;
+    if (old == WARPSORREL_DEEP || old == WARPSORREL_SURFACE) r.kind ^= 3;
     if (warpsorrel_co2(r.kind, r.salinity, r.temperature, r.pressure, lend_words()) != right.refusal) fail("the refusal of ln K0, another pressure");
     compare_words("ln K0, another pressure", &right.value, 1);
     if (right.refusal) return;
@@ -182,29 +233,26 @@ static void look_at_roots(const struct oracle_report *report, uint64_t drawn) {
 }
 
 /* The line is written in a room of WARPSORREL_LINE and in one of lent bytes. */
-static void look_at_pair(const uint8_t *stream, size_t length, size_t before, uint32_t number, size_t lent) {
-    struct oracle_report reports[2];
-    struct oracle_channel c[2] = {{0, 0, 0, 0, 0, 0, {0, 0, 0}}, {0, 0, 0, 0, 0, 0, {0, 0, 0}}};
-    int found = oracle_pair(stream, length, before, reports, c);
-    struct oracle_needle n = found ? oracle_needle(c) : (struct oracle_needle){0, 0};
+static void look_at_pair(const uint8_t *stream, size_t length, size_t before, uint32_t number, size_t lent, uint64_t drawn) {
+    struct two two;
+    memset(&two, 0, sizeof two);
+    int found = oracle_pair(stream, length, before, two.reports, two.channels);
+    const struct oracle_channel *c = two.channels;
+    struct oracle_needle n = found ? oracle_needle(two.reports, c) : (struct oracle_needle){0, 0};
     int64_t right[8] = {c[0].refusal, c[0].density, c[0].bulk, c[1].refusal, c[1].density, c[1].bulk, n.refusal, n.value};
     if (warpsorrel_pair(stream, length, before, lend_words()) != (uint32_t)found) fail("whether there is such a pair");
     compare_words("a pair", right, 8);
     if (!found) return;
 
-    struct report r[2];
     for (int i = 0; i < 2; i++) {
-        r[i] = report_of(&reports[i], c[i].refusal);
-        look_at_channel(r[i], &c[i]);
+        two.given[i] = report_of(&two.reports[i], c[i].refusal);
+        look_at_channel(two.given[i], &c[i]);
     }
-    int64_t needle[3] = {c[0].density, c[1].density, n.value};
-    uint32_t refusal = warpsorrel_needle(r[0].kind, r[0].salinity, r[0].temperature, r[0].pressure,
-                                         r[1].kind, r[1].salinity, r[1].temperature, r[1].pressure, lend_words());
-    if (refusal != n.refusal) fail("the needle's refusal");
-    compare_words("the needle", needle, 3);
-    look_at_formula(reports, c, n);
-    look_at_line(number, r[0], r[1], c, WARPSORREL_LINE);
-    look_at_line(number, r[0], r[1], c, lent);
+    look_at_needle(&two);
+    look_at_formula(two.reports, c, n);
+    look_at_line(number, &two, WARPSORREL_LINE);
+    look_at_line(number, &two, lent);
+    look_at_probes(two, number, drawn);
 }
 
 int LLVMFuzzerInitialize(int *argc, char ***argv) {
@@ -237,7 +285,7 @@ static void look_at_stream(const uint8_t *stream, size_t length, uint64_t mixed)
     uint32_t number = mixed >> 8 & 1 ? ends[(mixed >> 9) % (sizeof ends / sizeof *ends)] : (uint32_t)(mixed >> 16) % 10001;
     size_t lent = (size_t)(mixed >> 40) % (2 * WARPSORREL_LINE + 1);
     const size_t places[] = {0, pairs - (pairs > 0), pairs, (size_t)(mixed >> 32) % (pairs + 1), (size_t)mixed | SIZE_MAX / 2 + 1};
-    for (size_t i = 0; i < sizeof places / sizeof *places; i++) look_at_pair(stream, length, places[i], number, lent);
+    for (size_t i = 0; i < sizeof places / sizeof *places; i++) look_at_pair(stream, length, places[i], number, lent, mixed * (2 * i + 1));
     /* numbers at an end of the grid, that come round to it in fewer bits, or anywhere */
     static const int64_t off[] = {-1, -2, 42001, 42002, -42000, INT64_C(1) << 31, INT64_C(1) << 32, (INT64_C(1) << 32) + 35000, -(INT64_C(1) << 32),
                                   INT64_MAX, INT64_MIN};
@@ -296,26 +344,37 @@ static const uint32_t floats[] = {
 };
 #define FLOATS (sizeof floats / sizeof *floats)
 
+/* So few that two records often have the same. */
+static const uint16_t numbers[] = {0x0201, 0x0201, 0x0102, 0x0001, 0x0100, 0x0000, 0xffff, 0x00ff};
+#define NUMBERS (sizeof numbers / sizeof *numbers)
+#define LONGEST_RECORD 18
+
+static void put_number(uint8_t *at, uint16_t number) {
+    at[0] = (uint8_t)number;
+    at[1] = (uint8_t)(number >> 8);
+}
+
 static size_t put_record(uint8_t *at, uint32_t seed) {
-    unsigned kind = 1 + seed % 3, body = kind == 1 ? 12 : kind == 2 ? 8 : 0;
+    unsigned holds = 1 + seed % 3, numbered = seed / 3 % 2, floats_of = holds == 1 ? 3 : holds == 2 ? 2 : 0, body = 2 * numbered + 4 * floats_of;
     at[0] = (uint8_t)body;
     at[1] = 0;
-    at[2] = (uint8_t)kind;
+    at[2] = (uint8_t)(holds + 16 * numbered);
     at[3] = 0;
-    for (unsigned i = 0; i < body / 4; i++) {
+    if (numbered) put_number(at + 4, numbers[seed / 6 % NUMBERS]);
+    for (unsigned i = 0; i < floats_of; i++) {
         seed = seed * 1664525 + 1013904223;
         uint32_t bits = floats[(seed >> 8) % FLOATS];
         float most = i == 0 ? 42.0f : i == 1 ? 40.0f : 1000.0f, within = most * (float)(seed >> 8 & 0xffff) / 65536.0f;
         if (seed >> 28 < 8) memcpy(&bits, &within, 4);
-        memcpy(at + 4 + 4 * i, &bits, 4);
+        memcpy(at + 4 + 2 * numbered + 4 * i, &bits, 4);
     }
     return 4 + body;
 }
 
 size_t LLVMFuzzerCustomMutator(uint8_t *data, size_t size, size_t most, unsigned seed) {
     if (seed % 2 == 0) return LLVMFuzzerMutate(data, size, most);
-    /* a new record at the start, at the end, or in place of what stands at a record's start */
-    uint8_t fresh[16];
+    /* a new record at the start, at the end, or in place of what stands at a record's start; a number or a float in a body */
+    uint8_t fresh[LONGEST_RECORD];
     size_t n = put_record(fresh, seed >> 3), at = 0;
     int way = seed >> 1 & 3;
     if (way == 0 && size + n <= most) {
@@ -333,6 +392,8 @@ size_t LLVMFuzzerCustomMutator(uint8_t *data, size_t size, size_t most, unsigned
         memcpy(data + at, fresh, n);
         return at + n > size ? at + n : size;
     }
-    if (at + 8 <= size) memcpy(data + at + 4, &floats[(seed >> 12) % FLOATS], 4);
+    size_t number = at + 6 <= size && data[at + 2] > 16 ? 2 : 0;
+    if (number && seed >> 31) put_number(data + at + 4, numbers[(seed >> 12) % NUMBERS]);
+    else if (at + 8 + number <= size) memcpy(data + at + 4 + number, &floats[(seed >> 12) % FLOATS], 4);
     return size;
 }

@@ -44,21 +44,26 @@ def ask(letter, request, answer, asked):
     return numpy.array(list(struct.iter_unpack(answer, answered))).T
 
 
-def channels(reports):
-    """Refusals, grid numbers, shown densities, bulk moduli, remarks."""
-    return ask(b"c", "<I3f", "<9q", reports)
+def deep(*water):
+    """A deep report of a probe without a number."""
+    return (1, 0, *water)
+
+
+def channels(waters):
+    """Of deep reports: refusals, grid numbers, shown densities, bulk moduli, remarks."""
+    return ask(b"c", "<IH3f", "<9q", [deep(*water) for water in waters])
 
 
 def panel(waters):
     """The panel's shown densities of deep reports, which are three columns; in 0.001 kg/m3."""
-    refusals, _, _, _, densities, *_ = channels([(1, *water) for water in zip(*waters)])
+    refusals, _, _, _, densities, *_ = channels(list(zip(*waters)))
     assert len(densities) == len(waters[0]) and not any(refusals)
     return densities
 
 
 def panel_needles(left, right):
     """The panel's needles of such reports."""
-    refusals, _, _, needles = ask(b"n", "<I3fI3f", "<4q", [(1, *l, 1, *r) for l, r in zip(zip(*left), zip(*right))])
+    refusals, _, _, needles = ask(b"n", "<IH3fIH3f", "<4q", [(*deep(*l), *deep(*r)) for l, r in zip(zip(*left), zip(*right))])
     assert len(needles) == len(left[0]) and not any(refusals)
     return needles
 
@@ -160,7 +165,7 @@ def main():
     nan = float("nan")
     for what, s, t in (("salinity 50, 10 °C", 50.0, 10.0), ("salinity 35, 200 °C", 35.0, 200.0), ("salinity 35, temperature a NaN", 35.0, nan), ("salinity a NaN, 10 °C", nan, 10.0)):
         peers = [density([s], [t], [0.0])[0] for density in list(PEERS.values())[:3]]
-        print("| %s | refusal %d | " % (what, channels([(1, s, t, 0)])[0][0]) + " | ".join("%.3f" % value for value in peers) + " |")
+        print("| %s | refusal %d | " % (what, channels([(s, t, 0)])[0][0]) + " | ".join("%.3f" % value for value in peers) + " |")
 
     print("\nFerret's EOS-80 and the panel: %.6f kg/m3 at most" % worst)
     sys.exit(1 if worst > 0.0006 else 0)

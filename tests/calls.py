@@ -4,11 +4,12 @@
     python3 tests/calls.py COMMAND ...      the command that starts the driver (tests/driver.c)
 
 The version; pairs, pair and page on the hard streams of tests/streams.py and on longer ones; lines of every kind of entry, number and room,
-each with each; every kind of report; channels with floats beside their grid points, on them and about the halves, and the special ones each
-with each; ln K0 with every special float in every place, each salinity with each temperature; roots of salinities from end to end and of numbers
-off the grid, with every number of trials that changes anything and with greater ones; special floats, remarks, waters whose ln K0 hangs on the
-last unit, waters at two depths, and some roots, in every rounding mode, with denormals kept and flushed. That nothing else is written is the
-driver's to see: it ends then, which counts as a difference.
+each with each; needles and lines of probes' numbers each with each, by every two kinds and beside every refusal; every kind of report; channels
+with floats beside their grid points, on them and about the halves, and the special ones each with each; ln K0 with every special float in every
+place, each salinity with each temperature; roots of salinities from end to end and of numbers off the grid, with every number of trials that
+changes anything and with greater ones; special floats, remarks, waters whose ln K0 hangs on the last unit, waters at two depths, one probe on both
+sides, and some roots, in every rounding mode, with denormals kept and flushed. That nothing else is written is the driver's to see: it ends then,
+which counts as a difference.
 """
 import random
 import struct
@@ -21,10 +22,11 @@ from typing import NamedTuple
 
 import model
 from model import CUT, LENGTH, LONGEST_PAGE, bits_of, channel, co2, needle
-from streams import (ALL_KINDS, DEEP, HUGE, INFINITIES, LONGEST, MISSING, NANS, PLAIN, SURFACE, TINY, ZEROS, any_record, co2_reports, covered,
-                     covered_remarks, depth_pairs, halves, hard_streams, made, points, record_of, remarked_reports, specials)
+from streams import (ALL_KINDS, DEEP, HUGE, INFINITIES, LONGEST, LONGEST_TABLE, MISSING, NANS, OTHER, PLAIN, PROBE, PROBES, SENT, SURFACE, TINY,
+                     TURNED, ZEROS, any_record, co2_reports, covered, covered_remarks, deep, depth_pairs, halves, hard_streams, made, points,
+                     record_of, remarked_reports, specials, surface)
 
-VERSION = 3
+VERSION = 4
 SHORTEST_ROOM = 32  # for a line
 NOWHERE = 2**64 - 1  # for a length or a room: NULL, and 0 bytes
 PATIENCE = 300  # seconds after which a driver counts as hanging
@@ -44,6 +46,9 @@ def words(*numbers):
 
 def asked(letter, code, *numbers):
     return letter + struct.pack("<" + code, *numbers)
+
+
+REPORT = "IH3I"  # its kind, its probe's number and three floats as bits
 
 
 def version_call():
@@ -82,25 +87,26 @@ def page_call(text, room):
 
 
 def line_call(number, left, right, room):
-    """A report is its kind and three floats as bits."""
     refusal = 30 if bytes_of(room) < SHORTEST_ROOM else 0 if 1 <= number <= 9_999 else 31
     answer = text_answer(refusal, b"" if refusal else model.line(number, channel(*left), channel(*right)))
-    return Call("line", asked(b"l", "9IQ", number, *left, *right, room), answer)
+    return Call("line", asked(b"l", f"I{REPORT}{REPORT}Q", number, *left, *right, room), answer)
 
 
 def channel_call(report):
-    *numbers, remarks = channel(*report)
-    return Call("channel", asked(b"c", "4I", *report), words(*numbers, *remarks))
+    *numbers, remarks, _ = channel(*report)
+    return Call("channel", asked(b"c", REPORT, *report), words(*numbers, *remarks))
 
 
 def co2_call(report):
-    return Call("co2", asked(b"o", "4I", *report), words(*co2(*report)))
+    """No number is asked for."""
+    kind, _, *floats = report
+    return Call("co2", asked(b"o", "4I", kind, *floats), words(*co2(*report)))
 
 
 def needle_call(left, right):
     l, r = channel(*left), channel(*right)
     refusal, value = needle(l, r)
-    return Call("needle", asked(b"n", "8I", *left, *right), words(refusal, l.density, r.density, value))
+    return Call("needle", asked(b"n", REPORT + REPORT, *left, *right), words(refusal, l.density, r.density, value))
 
 
 def recorder_call(shown):
@@ -128,13 +134,15 @@ def long_streams(rng):
         yield (ALL_KINDS * 3_000)[:n]
         yield MISSING + (SURFACE * 20_000)[: n - 4]
     # Something good, cut or empty behind the 60,000 bytes and behind the greatest length of a body.
-    for before in (LONGEST, LONGEST + MISSING, made(7, bytes(59_996)), made(4, bytes(65_535)), made(1, bytes(65_535)) * 2):
-        for after in (b"\0", MISSING, DEEP, DEEP + SURFACE, DEEP[:-1], SURFACE + b"\0\0\0"):
+    one_probe = deep(*PLAIN, PROBE) + surface(*OTHER, PROBE)
+    for before in (LONGEST, LONGEST + MISSING, LONGEST_TABLE[:-2], made(7, bytes(59_996)), made(4, bytes(65_535)), made(1, bytes(65_535)) * 2):
+        for after in (b"\0", MISSING, DEEP, DEEP + SURFACE, DEEP[:-1], SURFACE + b"\0\0\0", one_probe, one_probe[:-1]):
             if len(before + after) > model.LONGEST_STREAM:
                 yield before + after
     # More pairs than a page has numbers for.
     for count in (9_998, 9_999, 10_000, 10_001, 25_000):
         yield MISSING * (2 * count - 2) + DEEP + SURFACE
+        yield MISSING * (2 * count - 2) + one_probe
         yield MISSING * (2 * count - 1)
 
 
@@ -168,12 +176,14 @@ NUMBERS = [0, 1, 9, 10, 99, 999, 1_000, 9_999, 10_000, 65_537, 2**31 + 1, 2**32 
 ROOMS = [0, 1, 31, 32, 33, 64, NOWHERE]
 WIDEST, LIGHTEST = [bits_of(x) for x in (42, -2, 1_000)], [0x80000000, bits_of(40), 0x80000000]
 BAD_FLOATS = [(place, bits) for place, most in enumerate((42, 40, 1_000)) for bits in (NANS[0], INFINITIES[1], bits_of(most) + 1)]
-OTHER_KINDS = [0, 4, 255, 256, 257, 65_535, 65_536, 65_537, 65_538, 65_539, *range(CUT - 1, LENGTH + 2), 2**31 + 1, 2**32 - 1]
+OTHER_KINDS = [0, 4, 16, 20, 255, 256, 257, 273, 65_535, 65_536, 65_537, 65_538, 65_539, 65_553, *range(CUT - 1, LENGTH + 2), 2**31 + 1, 2**32 - 1]
 ENTRIES = [
-    *((kind, *floats) for kind in (1, 2) for floats in (PLAIN, WIDEST, LIGHTEST)),
-    (2, *PLAIN[:2], NANS[0]), (2, *PLAIN[:2], bits_of(-1)), (3, 0, 0, 0), (3, *NANS[:3]),  # floats that are not read
-    *((1, *PLAIN[:place], bits, *PLAIN[place + 1 :]) for place, bits in BAD_FLOATS),
-    *((kind, *PLAIN) for kind in OTHER_KINDS),
+    *((kind, 0, *floats) for kind in (1, 2) for floats in (PLAIN, WIDEST, LIGHTEST)),
+    (2, 0, *PLAIN[:2], NANS[0]), (2, 0, *PLAIN[:2], bits_of(-1)), (3, 0, 0, 0, 0), (3, 0, *NANS[:3]),  # floats that are not read
+    *((1, 0, *PLAIN[:place], bits, *PLAIN[place + 1 :]) for place, bits in BAD_FLOATS),
+    *((kind, 0, *PLAIN) for kind in OTHER_KINDS),
+    (17, PROBE, *WIDEST), (17, PROBE, *LIGHTEST), (18, PROBE, *PLAIN[:2], NANS[0]), (2, PROBE, *PLAIN), (18, TURNED, *PLAIN), (19, PROBE, *NANS[:3]),
+    (17, PROBE, *PLAIN[:2], bits_of(-1)), (9, PROBE, *PLAIN),
 ]
 
 
@@ -184,10 +194,46 @@ def line_calls(entries):
 
 
 def kind_calls(rng):
-    """Every kind that a record can have, those round about the kinds of records that gave no reading, and some others."""
-    for kind in [*range(65_800), *(rng.randrange(2**32) for _ in range(5_000)), *(2**k + d for k in range(17, 32) for d in (-1, 0, 1, 2, 3))]:
-        yield channel_call((kind, *PLAIN))
-        yield co2_call((kind, *PLAIN))
+    """Every kind that a record can have, those round about the kinds of records that gave no reading, and some others; each on both sides of a
+    needle, whose other side is of the same probe."""
+    powers = (2**k + d for k in range(17, 32) for d in (-1, 0, 1, 2, 3, 17, 18, 19))
+    for kind in [*range(65_800), *(rng.randrange(2**32) for _ in range(5_000)), *powers]:
+        report, other = (kind, rng.choice(PROBES), *PLAIN), (rng.choice((1, 2, 17, 18)), PROBE, *OTHER, 0)
+        yield channel_call(report)
+        yield co2_call(report)
+        yield needle_call((kind, PROBE, *PLAIN), other)
+        yield needle_call(other, (kind, PROBE, *PLAIN))
+
+
+# ---- probes' numbers
+
+# Of a probe: read and refused, by each of its two kinds, and what gave no reading.
+PROBED = [
+    *((kind, *PLAIN) for kind in SENT), (18, *OTHER, NANS[0]), (1, *PLAIN[:2], NANS[0]), (17, bits_of(43), *PLAIN[1:]),
+    (18, PLAIN[0], bits_of(-3), 0), (17, *PLAIN[:2], bits_of(-1)), (CUT, *PLAIN), (CUT + 1, *PLAIN), (LENGTH, *PLAIN), (20, *PLAIN),
+]
+
+
+def probe_calls(rng):
+    """Every two reports of one probe, of two and of probes without a number; numbers each with each, by every two kinds that give a density; any
+    numbers, the two alike, alike but for a byte or a bit, or not at all. The channel of each."""
+
+    def calls(left, right):
+        yield from (channel_call(left), channel_call(right), needle_call(left, right), needle_call(right, left))
+        yield from (line_call(number, left, right, SHORTEST_ROOM) for number in (1, 9_999))
+
+    some = [(PROBE, PROBE), (PROBE, TURNED), (0, 0), (0, PROBE), (PROBE, 0), (65_535, 65_535)]
+    for (one, *left), (other, *right), (l, r) in product(PROBED, PROBED, some):
+        yield from calls((one, l, *left), (other, r, *right))
+    waters = {1: PLAIN, 2: [*OTHER, NANS[0]], 17: WIDEST, 18: [*OTHER, bits_of(-1)]}
+    for one, other in product(waters, repeat=2):
+        for l, r in product(PROBES, repeat=2):
+            yield from calls((one, l, *waters[one]), (other, r, *waters[other]))
+    for _ in range(6_000):
+        one, other = rng.choices(list(waters), k=2)
+        l, any_byte, any_number = rng.getrandbits(16), rng.getrandbits(8), rng.getrandbits(16)
+        r = rng.choice((l, l, l ^ 1 << rng.randrange(16), l ^ any_byte, l ^ any_byte << 8, l >> 8 | l % 256 << 8, any_number))
+        yield from calls((one, l, *waters[one]), (other, r, *waters[other]))
 
 
 # ---- channels
@@ -199,9 +245,9 @@ def channel_calls(rng):
     yield from map(channel_call, [*remarked_reports(), *ENTRIES])
     every = [[*dict.fromkeys(specials(place) + halves(place, rng) + points(place, rng))] for place in range(3)]
     for place, bits in ((place, bits) for place in range(3) for bits in every[place]):
-        yield from (channel_call((kind, *PLAIN[:place], bits, *PLAIN[place + 1 :])) for kind in (1, 2))
-    yield from (channel_call((rng.choice((1, 2)), *map(rng.choice, every))) for _ in range(20_000))
-    yield from (channel_call((rng.choice((1, 2, 3)), *(rng.getrandbits(32) for _ in range(3)))) for _ in range(3_000))
+        yield from (channel_call((kind, rng.choice(PROBES), *PLAIN[:place], bits, *PLAIN[place + 1 :])) for kind in (1, 2, 17, 18))
+    yield from (channel_call((rng.choice((1, 2, 17, 18)), rng.choice(PROBES), *map(rng.choice, every))) for _ in range(20_000))
+    yield from (channel_call((rng.choice(list(SENT)), rng.getrandbits(16), *(rng.getrandbits(32) for _ in range(3)))) for _ in range(3_000))
 
 
 # ---- ln K0
@@ -212,9 +258,9 @@ def co2_calls(rng):
     entry; floats of any bits."""
     salinities, temperatures, pressures = ([*dict.fromkeys(specials(place))] for place in range(3))
     yield from map(co2_call, [*co2_reports(), *ENTRIES])
-    yield from (co2_call((rng.choice((1, 2)), s, t, rng.choice(pressures))) for s, t in product(salinities, temperatures))
-    yield from (co2_call((kind, *PLAIN[:2], p)) for kind in (1, 2) for p in pressures)
-    yield from (co2_call((rng.choice((1, 2, 3)), *(rng.getrandbits(32) for _ in range(3)))) for _ in range(3_000))
+    yield from (co2_call((rng.choice((1, 2, 17, 18)), 0, s, t, rng.choice(pressures))) for s, t in product(salinities, temperatures))
+    yield from (co2_call((kind, 0, *PLAIN[:2], p)) for kind in (1, 2, 17, 18) for p in pressures)
+    yield from (co2_call((rng.choice(list(SENT)), 0, *(rng.getrandbits(32) for _ in range(3)))) for _ in range(3_000))
 
 
 # ---- roots
@@ -245,21 +291,25 @@ def mode_reports(rng):
     for place in range(3):
         for bits in dict.fromkeys(specials(place) + rng.sample(halves(place, rng), 100) + rng.sample(points(place, rng), 60)):
             floats = [*PLAIN[:place], bits, *PLAIN[place + 1 :]]
-            yield from ((kind, *floats) for kind in ((1, 2) if place < 2 else (1,)))
+            yield from ((kind, 0, *floats) for kind in ((1, 2) if place < 2 else (1,)))
+            yield (rng.choice((17, 18)), rng.choice(PROBES), *floats)
     yield from remarked_reports()
     yield from co2_reports()
     hardest = NANS + INFINITIES + ZEROS + TINY + HUGE
-    yield from ((1, *(rng.choice(hardest if rng.random() < 0.5 else specials(i)) for i in range(3))) for _ in range(400))
+    for _ in range(400):
+        floats = [rng.choice(hardest if rng.random() < 0.5 else specials(i)) for i in range(3)]
+        yield (kind := rng.choice((1, 17)), PROBE if kind == 17 else 0, *floats)
 
 
 def mode_calls(reports):
     """A batch for each mode. The recorder divides in the mode that it finds, so it is held to the model to nearest alone."""
-    plain = (1, *PLAIN)
+    plain, probed = (1, 0, *PLAIN), (17, PROBE, *PLAIN)
     records = [record_of(*report) for report in reports]
     calls = [version_call(), *(channel_call(report) for report in reports), *(co2_call(report) for report in reports)]
-    for left, right in [*zip(reports, repeat(plain)), *zip(repeat(plain), reports), *depth_pairs()]:
+    of_one_probe = product((probed, (2, PROBE, *OTHER, 0)), (probed, (18, PROBE, *OTHER, NANS[0]), (19, PROBE, 0, 0, 0)))
+    for left, right in [*zip(reports, repeat(plain)), *zip(repeat(probed), reports), *depth_pairs(), *of_one_probe]:
         calls += [needle_call(left, right), line_call(9_999, left, right, SHORTEST_ROOM)]
-    for stream in (r + DEEP for r in records):
+    for stream in (r + deep(*PLAIN, PROBE) for r in records):
         calls += [stream_call(stream), pairs_call(model.pairs(stream)), pair_call(model.pairs(stream), 0)]
     for stream in (b"".join(records), MISSING + b"".join(records)):
         calls += [stream_call(stream), pairs_call(model.pairs(stream)), page_call(model.page(stream), LONGEST_PAGE)]
@@ -296,8 +346,8 @@ def hexed(some):
     return some[:200].hex(" ") + (f" .. ({len(some)} bytes)" if len(some) > 200 else "")
 
 
-def differences(command, calls):
-    """Words for each answer of one driver that is not the model's. After an answer that ends too early none follows."""
+def differences(command, calls, most=None):
+    """Words for each answer of one driver that is not the model's, or for so many at most. After an answer that ends too early none follows."""
     done = subprocess.run(command, input=b"".join(call.request for call in calls), capture_output=True, timeout=PATIENCE)
     if done.returncode == 0 and done.stdout == b"".join(call.answer for call in calls):
         return []
@@ -313,7 +363,7 @@ def differences(command, calls):
             where += f"\n  mode:     rounding {ROUNDINGS[mode[0]]}, denormals {DENORMALS[mode[1]]}" if mode != NEAREST else ""
             said = f"got:      {in_words(call.what, got)}" if end <= len(done.stdout) else end_of_driver
             told.append(f"{where}\n  expected: {in_words(call.what, call.answer)}\n  {said}")
-        if end > len(done.stdout):
+        if end > len(done.stdout) or len(told) == most:
             return told
         mode = struct.unpack("<2I", call.request[1:]) if call.what == "mode" else mode
     return told or [f"calls: {end_of_driver}"]
@@ -337,6 +387,7 @@ def every_batch():
     covered_remarks(every)
     yield from batches(stream_calls([*every, *long_streams(rng)]))
     yield from batches(line_calls(ENTRIES))
+    yield from batches(probe_calls(rng), 60_000)
     yield list(kind_calls(rng))
     yield list(channel_calls(rng))
     yield list(co2_calls(rng))

@@ -113,21 +113,27 @@ static void stream_kept(void) {
     hold(memcmp(stream, sent, stream_length) == 0 && untouched(stream - BESIDE, BESIDE), "the panel wrote to the stream or before it");
 }
 
-/* A report: its kind, then its floats as bits, so that a NaN goes through as it is. */
+/* A report: its kind (uint32), its probe's number (uint16), then its floats as bits, so that a NaN goes through as it is. */
 struct report {
     uint32_t kind;
+    uint16_t probe;
     float salinity, temperature, pressure;
 };
 
-static struct report need_report(void) {
-    uint32_t in[4];
-    struct report report;
-    need(in, sizeof in);
-    report.kind = in[0];
-    memcpy(&report.salinity, &in[1], sizeof in[1]);
-    memcpy(&report.temperature, &in[2], sizeof in[2]);
-    memcpy(&report.pressure, &in[3], sizeof in[3]);
+static struct report need_some(int has_number) {
+    uint32_t bits[3];
+    struct report report = {0, 0, 0, 0, 0};
+    need(&report.kind, sizeof report.kind);
+    if (has_number) need(&report.probe, sizeof report.probe);
+    need(bits, sizeof bits);
+    memcpy(&report.salinity, &bits[0], sizeof bits[0]);
+    memcpy(&report.temperature, &bits[1], sizeof bits[1]);
+    memcpy(&report.pressure, &bits[2], sizeof bits[2]);
     return report;
+}
+
+static struct report need_report(void) {
+    return need_some(1);
 }
 
 /* v: the version (uint32) */
@@ -160,13 +166,13 @@ static void channel(void) {
     struct report r = need_report();
     int64_t words[10];
     lend(words, 10);
-    uint32_t refusal = warpsorrel_channel(r.kind, r.salinity, r.temperature, r.pressure, words + 1);
+    uint32_t refusal = warpsorrel_channel(r.kind, r.probe, r.salinity, r.temperature, r.pressure, words + 1);
     give_lent(refusal, words, 10);
 }
 
-/* o report: refusal, ln K0 in millionths (int64 each) */
+/* o report, without its probe's number: refusal, ln K0 in millionths (int64 each) */
 static void co2(void) {
-    struct report r = need_report();
+    struct report r = need_some(0);
     int64_t words[3];
     lend(words, 3);
     uint32_t refusal = warpsorrel_co2(r.kind, r.salinity, r.temperature, r.pressure, words + 1);
@@ -179,7 +185,8 @@ static void needle(void) {
     struct report r = need_report();
     int64_t words[5];
     lend(words, 5);
-    uint32_t refusal = warpsorrel_needle(l.kind, l.salinity, l.temperature, l.pressure, r.kind, r.salinity, r.temperature, r.pressure, words + 1);
+    uint32_t refusal = warpsorrel_needle(l.kind, l.probe, l.salinity, l.temperature, l.pressure, r.kind, r.probe, r.salinity, r.temperature,
+                                         r.pressure, words + 1);
     give_lent(refusal, words, 5);
 }
 
@@ -237,8 +244,8 @@ static void line(void) {
     struct report r = need_report();
     uint64_t room = need_size();
     uint8_t *out = lend_bytes(room);
-    uint32_t refusal = warpsorrel_line(number, l.kind, l.salinity, l.temperature, l.pressure, r.kind, r.salinity, r.temperature, r.pressure,
-                                       out, bytes_of(room), lend_count());
+    uint32_t refusal = warpsorrel_line(number, l.kind, l.probe, l.salinity, l.temperature, l.pressure, r.kind, r.probe, r.salinity, r.temperature,
+                                       r.pressure, out, bytes_of(room), lend_count());
     give_lent_bytes(refusal, room);
 }
 

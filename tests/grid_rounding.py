@@ -223,11 +223,11 @@ def asked(command, requests, answer):
 
 
 def channels(command, readings):
-    return asked(command, [struct.pack("<cI3f", b"c", 1, *r) for r in readings], "<9q")
+    return asked(command, [struct.pack("<cIH3f", b"c", 1, 0, *r) for r in readings], "<9q")
 
 
 def needle(command, left, right):
-    return asked(command, [struct.pack("<cI3fI3f", b"n", 1, *left, 1, *right)], "<4q")[0]
+    return asked(command, [struct.pack("<cIH3fIH3f", b"n", 1, 0, *left, 1, 0, *right)], "<4q")[0]
 
 
 def exact_difference(left, right):

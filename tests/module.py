@@ -1,11 +1,13 @@
 #!/usr/bin/env python3
-"""Holds capi/warpsorrel.py to capi/warpsorrel.h, to docs/FORMAT.md and, with the shared library that capi/build left, to known answers.
+"""Holds capi/warpsorrel.py to capi/warpsorrel.h, to the C and Rust callers beside it, to docs/FORMAT.md and, with the shared library that capi/build
+left, to known answers.
 
     python3 tests/module.py
 
-Every macro and every declaration of the header, every refusal in words, every call; remarks against exact fractions; what is said of a library
-that is missing, cannot be loaded or is of another version. A machine that is not x86-64 cannot load the library: there capi/try alone makes the
-calls, and here a channel's places are tried with a call that says what it is told.
+Every macro and every declaration of the header, every refusal in words, every call; remarks against exact fractions; every kind with every other and
+probe numbers that differ in one byte or in both, from reports and from records; what is said of a library that is missing, cannot be loaded or is of
+another version. A machine that is not x86-64 cannot load the library: there capi/try alone makes the calls, and here a channel's places, and what
+is handed to a call, are tried with calls that say what they are told.
 """
 import ctypes
 import importlib.util
@@ -13,10 +15,13 @@ import os
 import platform
 import re
 import shutil
+import struct
+import subprocess
 import sys
 import tempfile
-from ctypes import CFUNCTYPE, POINTER, c_char_p, c_float, c_int64, c_size_t, c_uint32, c_uint64
+from ctypes import CFUNCTYPE, POINTER, c_char_p, c_float, c_int64, c_size_t, c_uint16, c_uint32, c_uint64
 from fractions import Fraction
+from itertools import product
 from math import floor, isqrt
 from pathlib import Path
 from types import SimpleNamespace
@@ -27,6 +32,7 @@ MODULE = ROOT / "capi" / "warpsorrel.py"
 LIBRARY = ROOT / "target" / "capi" / "libwarpsorrel.so"
 HEADER = (ROOT / "capi" / "warpsorrel.h").read_text("utf-8")
 FORMAT = (ROOT / "docs" / "FORMAT.md").read_text("utf-8")
+EXAMPLES = ROOT / "examples"
 
 
 sys.path.insert(0, str(MODULE.parent))
@@ -70,9 +76,11 @@ WORDS = {
     4: "the temperature is not from -2 to 40 degrees C",
     5: "the pressure is not from 0 to 1,000 bar",
     6: "the record is cut short",
-    7: "the kind is none of 1, 2, 3",
+    7: "the kind is none of 1, 2, 3, 17, 18, 19",
     8: "the length is not the kind's own",
 }
+SAME_PROBE = "both sides have the same probe number, other than 0"
+OTHER_WORDS = {0: "not refused", 30: "the room is too small", 31: "the pair number is not from 1 to 9,999", 32: SAME_PROBE}
 # Of ln K0: the temperature has another range, and the pressure, which is not read, refuses nothing.
 CO2_WORDS = {**WORDS, 4: "the temperature is not from 0 to 40 degrees C"}
 del CO2_WORDS[5]
@@ -80,10 +88,10 @@ del CO2_WORDS[5]
 
 def words():
     sides = {base + number: f"{side}: {text}" for side, base in (("left", 100), ("right", 200)) for number, text in WORDS.items()}
-    others = {0: "not refused", 30: "the room is too small", 31: "the pair number is not from 1 to 9,999"}
-    hold("the words of every refusal", {**others, **WORDS, **sides}, {int(r): r.reason for r in Refusal})
+    hold("the words of every refusal", {**OTHER_WORDS, **WORDS, **sides}, {int(r): r.reason for r in Refusal})
     hold("the names of a needle's", [], [r for r in Refusal if r.side and r.name != f"{r.side.upper()}_{r.cause.name}"])
     hold("the sides", {0: None, 1: "left", 2: "right"}, {r // 100: r.side for r in Refusal})
+    hold("the cause of a needle's that has no side", (None, Refusal.SAME_PROBE), (Refusal.SAME_PROBE.side, Refusal.SAME_PROBE.cause))
     hold("what is true", [Refusal.NONE, Co2Refusal.NONE], [r for r in (*Refusal, *Co2Refusal) if not r])
     hold("the words of every refusal of ln K0", {0: "not refused", **CO2_WORDS}, {int(r): r.reason for r in Co2Refusal})
     hold("the names of a ln K0's", [r.name for r in Co2Refusal], [Refusal(r).name for r in Co2Refusal])
@@ -117,7 +125,7 @@ def macros():
     hold("and those of ln K0", "the temperature is not from 0 to 40 degrees C", Co2Refusal.TEMPERATURE.reason)
 
 
-TYPES = {"uint32_t": c_uint32, "uint64_t": c_uint64, "int64_t": c_int64, "float": c_float, "size_t": c_size_t}
+TYPES = {"uint16_t": c_uint16, "uint32_t": c_uint32, "uint64_t": c_uint64, "int64_t": c_int64, "float": c_float, "size_t": c_size_t}
 TYPES |= {"uint8_t *": c_char_p, "size_t *": POINTER(c_size_t), "int64_t *": POINTER(c_int64)}
 
 
@@ -135,17 +143,87 @@ def declarations():
     hold("the header's declarations are the module's", declared, warpsorrel._CALLS)
 
 
+RUST_TYPES = {"u16": c_uint16, "u32": c_uint32, "i64": c_int64, "f32": c_float, "usize": c_size_t, "*const u8": c_char_p, "*mut u8": c_char_p}
+RUST_TYPES |= {"*mut usize": POINTER(c_size_t), "*mut i64": POINTER(c_int64), "*mut [u64; 4]": POINTER(c_uint64 * 4)}
+RUST_TYPES |= {f"*mut [i64; {n}]": POINTER(c_int64 * n) for n in (3, 8)}
+
+
+def other_callers():
+    """What the C and Rust callers have in words and numbers of their own."""
+    spoken = {**OTHER_WORDS, **WORDS}
+    del spoken[0]
+    c, rust = ((ROOT / "capi" / name).read_text("utf-8") for name in ("example.c", "example.rs"))
+    by_name = re.findall(r'case WARPSORREL_REFUSED_(\w+): return "(.*)";', c)
+    hold("the C caller's words", spoken, {int(Refusal[name]): text for name, text in by_name})
+    arms = re.search(r"pub fn words\(.*?^    }$", rust, re.M | re.S)[0]
+    hold("the Rust caller's words", spoken, {int(number): text for number, text in re.findall(r'^ +(\d+) => "(.*)",$', arms, re.M)})
+    hold("the Rust caller's version", [str(warpsorrel.VERSION)], re.findall(r"const VERSION: u32 = (\d+);", rust))
+    declared = {}
+    for name, parameters, result in re.findall(r"pub fn warpsorrel_(\w+)\((.*?)\) -> (\w+);", rust, re.S):
+        declared[name] = (RUST_TYPES[result], *(RUST_TYPES[kind] for kind in re.findall(r"\w+: ([^,]+?)\s*(?:,|$)", parameters)))
+    hold("the Rust caller's declarations are the module's", warpsorrel._CALLS, declared)
+
+
 def format_page():
     rows = [[cell.strip() for cell in line.strip("|").split("|")] for line in FORMAT.splitlines() if re.match(r"\| \d+ \|", line)]
-    kinds = {name.upper(): int(number) for number, name, length, _ in (row for row in rows if len(row) == 4)}
-    hold("FORMAT's kinds", {k.name: int(k) for k in Kind if k < 4}, kinds)
+    kinds = {int(number): (family, holds, int(length)) for number, family, holds, length, _ in (row for row in rows if len(row) == 5)}
+    named = {("" if family == "old" else f"{family.upper()}_") + holds.upper(): number for number, (family, holds, _) in kinds.items()}
+    hold("FORMAT's kinds", {k.name: int(k) for k in Kind if k < 65_536}, named)
+    hold("FORMAT's lengths", {number: len(body(number, 0, 0, 0, 0)) for number in kinds}, {number: length for number, (_, _, length) in kinds.items()})
+    hold("the words of 7 have FORMAT's kinds", f"the kind is none of {', '.join(map(str, kinds))}", WORDS[7])
     refusals = {int(row[0]): row[1] for row in rows if len(row) == 3}
-    hold("FORMAT's refusals", sorted(WORDS), sorted(refusals))
-    hold("the order of FORMAT's refusals is the header's", True, ", ".join(map(str, refusals)) in HEADER)
+    hold("FORMAT's refusals", [*sorted(WORDS), 32], sorted(refusals))
+    hold("FORMAT has the one of both sides last", 32, list(refusals)[-1])
+    hold("the order of FORMAT's refusals is the header's", True, ", ".join(map(str, list(refusals)[:-1])) + " is answered" in HEADER)
     # FORMAT says of 6 just what is too short, and leaves the units out; what it says of ln K0 alone stands after a semicolon.
     before = {n: when.split(";")[0] for n, when in refusals.items()}
-    differ = {n: when for n, when in before.items() if when not in WORDS[n] and WORDS[n] not in when}
+    spoken = {**WORDS, 32: SAME_PROBE}
+    differ = {n: when for n, when in before.items() if when not in spoken[n] and spoken[n] not in when}
     hold("FORMAT's words", {6: "under 4 bytes are left for the head, or under the stated length for the body"}, differ)
+    hold("FORMAT's words of kinds, lengths and numbers, to the letter", [spoken[n] for n in (7, 8, 32)], [refusals[n] for n in (7, 8, 32)])
+
+
+# ---- records
+
+# Probe numbers that differ in the lower byte, in the higher one, in both, or have them exchanged; 0 is no number.
+NUMBERS = (0, 1, 2, 17, 255, 256, 257, 258, 513, 32_767, 32_768, 65_280, 65_534, 65_535)
+
+
+def body(kind, probe, salinity, temperature, pressure):
+    """A record's, by the definition: the number in a numbered kind, then as many floats as the kind has."""
+    floats = (salinity, temperature, pressure)[: {1: 3, 2: 2, 3: 0}[kind % 16]]
+    return (struct.pack("<H", probe) if kind > 16 else b"") + struct.pack(f"<{len(floats)}f", *floats)
+
+
+def record(kind, probe, *floats):
+    made = body(kind, probe, *floats)
+    return struct.pack("<HH", len(made), kind) + made
+
+
+def made_stream(text):
+    """What examples/make-stream makes of a text, or what it says."""
+    made = subprocess.run([sys.executable, "-B", EXAMPLES / "make-stream"], input=text.encode(), capture_output=True, timeout=30)
+    return made.stdout or made.stderr.decode()
+
+
+def fields():
+    """The numbered record that FORMAT takes apart."""
+    return re.findall(r"^(\w+) +((?:[0-9A-F]{2} ){2,4}) +(\d+)(.*)$", FORMAT, re.M)
+
+
+def records():
+    names = ("length", "kind", "number", "salinity", "temperature", "pressure")
+    hold("FORMAT's numbered record has every field", names, tuple(name for name, *_ in fields()))
+    length, kind, number, *floats = (int(value) for _, _, value, _ in fields())
+    shown = bytes.fromhex("".join(hexed for _, hexed, _, _ in fields()))
+    hold("the bytes of FORMAT's numbered record", record(kind, number, *floats), shown)
+    hold("the length of FORMAT's numbered record", length, len(shown) - 4)
+    hold("FORMAT's numbered record shows which byte comes first", f", which is {number % 256} + {number // 256} · 256", fields()[2][3])
+    hold("FORMAT's numbered record by make-stream", shown * 2, made_stream(f"deep {' '.join(map(str, floats))} probe {number}\n" * 2))
+    for probe in NUMBERS:
+        text = f"deep 35 5 100 probe {probe}\nsurface 12 8 probe {probe}\nmissing probe {probe}\ndeep 35 5 100\nsurface 12 8\nmissing\n"
+        numbered = record(17, probe, 35, 5, 100) + record(18, probe, 12, 8, 0) + record(19, probe, 0, 0, 0)
+        hold(f"make-stream, probe {probe}", numbered + record(1, 0, 35, 5, 100) + record(2, 0, 12, 8, 0) + record(3, 0, 0, 0, 0), made_stream(text))
 
 
 # ---- answers
@@ -178,7 +256,7 @@ def raw(panel, report):
 
 def answers(panel):
     none, fjord, deep, brine = Report.missing(), Report.surface(28.5, 12.25), Report.deep(34.25, 7.5, 4), Report.deep(42.25, 7.5, 4)
-    same("version", 3, panel.version)
+    same("version", 4, panel.version)
     same("path", str(LIBRARY), panel.path)
     same("refusal", [Refusal.NONE, Refusal.SALINITY], [panel.refusal(35_000, 25_000, 100_000), panel.refusal(42_001, 25_000, 100_000)])
     same("density", 1_062_538, panel.density(35_000, 25_000, 100_000))
@@ -236,7 +314,98 @@ def answers(panel):
     frost = Report.surface(34.25, -1)
     same("below 0 degrees C", [Refusal.NONE, Co2(Co2Refusal.TEMPERATURE, 0)], [panel.channel(frost).refusal, panel.co2(frost)])
     same("a float too large for 32 bits", Refusal.NOT_FINITE, panel.channel(Report.surface(1e39, 5)).refusal)
-    same("every other kind", Refusal.KIND, panel.channel(Report(2**32 - 1, 35, 5, 0)).refusal)
+    kinds = [k for k in Kind if k < 65_536]
+    near = {k + by for k in kinds for by in (-1, 1, 16, 256, 65_536)} | {k % 256 for k in Kind} | {0, 49, 65_535, 2**31 + 1, 2**32 - 1}
+    for kind in sorted(near - {*Kind}):
+        refused = [panel.channel(Report(kind, 35, 5, 0, probe)).refusal for probe in (0, 17)]
+        same(f"kind {kind}", [Refusal.KIND] * 2 + [Co2(Co2Refusal.KIND, 0)], refused + [panel.co2(Report(kind, 35, 5, 0))])
+
+
+# ---- probe numbers
+
+NAN = float("nan")
+WATERS = [(28.5, 12.25, 0.5), (34.25, 7.5, 4), (35, 5.1, 0.004), (42.25, 7.5, 4), (34.25, -1, 0), (34.25, 40.5, 4), (34.25, 7.5, 1_000.5)]
+WATERS += [(34.25, 7.5, NAN), (NAN, 7.5, 0)]
+
+
+def both_kinds(kind):
+    """The kinds that say the same: those that stand for no reading have no other."""
+    return (kind, kind + 16) if kind in (Kind.DEEP, Kind.SURFACE, Kind.MISSING) else (kind,)
+
+
+def two_kinds(panel):
+    """A report's two kinds mean the same, and its number changes nothing of its channel and of ln K0."""
+    for kind, water in product((Kind.DEEP, Kind.SURFACE, Kind.MISSING), WATERS):
+        bare = panel.channel(Report(kind, *water)), panel.co2(Report(kind, *water))
+        for either, probe in product(both_kinds(kind), NUMBERS):
+            report = Report(either, *water, probe)
+            same(f"the channel and ln K0 of {report}", bare, (panel.channel(report), panel.co2(report)))
+    same("deep", Report(Kind.DEEP, 35, 5, 100, 513), Report.deep(35, 5, 100, probe=513))
+    same("surface", Report(Kind.SURFACE, 35, 5, 0.0, 513), Report.surface(35, 5, probe=513))
+    same("missing", Report(Kind.MISSING, 0.0, 0.0, 0.0, 513), Report.missing(probe=513))
+    hold("without a number", [0, 0, 0, 0], [r.probe for r in (Report.deep(35, 5, 100), Report.surface(35, 5), Report.missing(), Report(Kind.CUT))])
+
+
+def line_of(number, left, right, needle):
+    """The sheet's line of two sides and what is answered for the needle."""
+    places = [f"R{side.refusal:d}" if side.refusal else side.density for side in (left, right)]
+    return f"{number} {places[0]} {places[1]} {f'R{needle.refusal:d}' if needle.refusal else needle.value}\n"
+
+
+def needles(panel):
+    """Every kind with every other and every number with every other, from reports and from records: the needle, the line, the pair and the page."""
+    fjord, deep, brine = WATERS[0], WATERS[1], WATERS[3]
+    kept = [(Kind.SURFACE, fjord), (Kind.DEEP, deep), (Kind.DEEP, fjord), (Kind.MISSING, deep), (Kind.DEEP, brine)]
+    unread = [(kind, deep) for kind in (Kind.CUT, Kind.LENGTH, Kind.UNKNOWN)]
+    for (left, l_water), (right, r_water) in product(kept + unread, repeat=2):
+        bare = panel.needle(Report(left, *l_water), Report(right, *r_water))
+        channels = panel.channel(Report(left, *l_water)), panel.channel(Report(right, *r_water))
+        sides = [Side(c.refusal, c.density, c.bulk) for c in channels]
+        stream, page = b"", "pair left right needle\n"
+        for number, (l_probe, r_probe) in enumerate(product(NUMBERS, repeat=2), 1):
+            one_probe = not bare.refusal and l_probe == r_probe != 0
+            needle = Needle(Refusal.SAME_PROBE, bare.left, bare.right, 0) if one_probe else bare
+            line = line_of(number, *channels, needle)
+            for l_kind, r_kind in product(both_kinds(left), both_kinds(right)):
+                reports = Report(l_kind, *l_water, l_probe), Report(r_kind, *r_water, r_probe)
+                same(f"the needle of {reports}", needle, panel.needle(*reports))
+                same(f"the line of {reports}", Written(Refusal.NONE, line), panel.line(number, *reports))
+            if max(left, right) < 4:
+                stream += record(left + 16, l_probe, *l_water) + record(right + 16, r_probe, *r_water)
+                page += line
+                same(f"the records of {reports}", Pair(*sides, needle.refusal, needle.value), panel.pair(stream, number - 1))
+        same(f"the page of {left!r} {l_water}, {right!r} {r_water}", Written(Refusal.NONE, page), panel.page(stream))
+
+
+def numbered_records(panel):
+    """An old record reads as number 0, whatever its floats begin with; each numbered kind has a length of its own."""
+    water, begins = (34.1, 5.1, 100.1), 0x6666  # the salinity's first two bytes, as a number
+    hold("what the body of an old record begins with", struct.pack("<H", begins), body(1, 0, *water)[:2])
+    for left, right, probe in product((1, 2, 17, 18), (1, 2, 17, 18), (0, begins)):
+        stream = record(left, probe, *water) + record(right, probe, *water)
+        expected = Refusal.SAME_PROBE if min(left, right) > 16 and probe else Refusal.NONE
+        same(f"kinds {left} and {right}, number {probe} where there is one", expected, panel.pair(stream, 0).needle_refusal)
+    for kind in (17, 18, 19):
+        own = body(kind, 513, *water)
+        for length in {0, 2, 4, 8, 10, 12, 14, 16, len(own) - 1, len(own) + 1, 65_535} - {len(own)}:
+            stream = struct.pack("<HH", length, kind) + bytes(length) + record(3, 0, 0, 0, 0)
+            given = panel.pair(stream, 0)
+            same(f"kind {kind}, length {length}", (Side(Refusal.LENGTH, 0, 0), Refusal.MISSING), (given.left, given.right.refusal))
+        cut = panel.pair(record(kind, 513, *water)[:-1], 0)
+        same(f"kind {kind}, cut", (Refusal.CUT, Refusal.CUT, Refusal.LEFT_CUT), (cut.left.refusal, cut.right.refusal, cut.needle_refusal))
+    shown = bytes.fromhex("".join(hexed for _, hexed, _, _ in fields())) * 2
+    line = re.search(r"^These 18 bytes twice, .* are the line `(.*)`\.$", FORMAT, re.M)[1]
+    same("FORMAT's numbered record twice", Written(Refusal.NONE, f"pair left right needle\n{line}\n"), panel.page(shown))
+
+
+def shown_examples(panel):
+    """The page that examples/README.md shows, and what the module's own words show."""
+    readme = (EXAMPLES / "README.md").read_text("utf-8")
+    page = re.search(r"`\./run examples/night-shift\.txt` prints\n\n((?:    .*\n)+)", readme)[1]
+    stream = made_stream((EXAMPLES / "night-shift.txt").read_text("utf-8"))
+    same("examples/README.md: night-shift.txt", Written(Refusal.NONE, re.sub("^    ", "", page, flags=re.M)), panel.page(stream))
+    one = panel.needle(Report.surface(28.5, 12.25, probe=17), Report.deep(34.25, 7.5, 4, probe=17))
+    hold("the module's words", True, f"    # {one.left} {one.right} {one.refusal.reason}\n" in warpsorrel.__doc__)
 
 
 def faults(panel):
@@ -254,6 +423,11 @@ def faults(panel):
         ("trials", 2**32, (0, 2**32 - 1), lambda: panel.root(35_000, 2**32)),
         ("kind", 2**32 + 1, (0, 2**32 - 1), lambda: panel.channel(Report(2**32 + 1, 35, 5, 0))),
         ("kind", -1, (0, 2**32 - 1), lambda: panel.co2(Report(-1, 35, 5, 0))),
+        ("probe", 65_536, (0, 65_535), lambda: panel.channel(Report.deep(35, 5, 0, probe=65_536))),
+        ("probe", -1, (0, 65_535), lambda: panel.needle(Report.surface(35, 5, probe=-1), deep)),
+        ("probe", 65_536 + 17, (0, 65_535), lambda: panel.needle(deep, Report.missing(probe=65_536 + 17))),
+        ("probe", 2**32, (0, 65_535), lambda: panel.line(1, deep, Report(Kind.CUT, probe=2**32))),
+        ("probe", 65_536, (0, 65_535), lambda: panel.co2(Report.surface(35, 5, probe=65_536))),
         ("shown", -1, (0, 2**32 - 1), lambda: panel.recorder(-1)),
         ("number", 2**32 + 1, (0, 2**32 - 1), lambda: panel.line(2**32 + 1, deep, deep)),
         ("before", -1, (0, 2**64 - 1), lambda: panel.pair(b"", -1)),
@@ -263,6 +437,11 @@ def faults(panel):
     for what, call in (
         ("a salinity that is text", lambda: panel.channel(Report.surface("35", 5))),
         ("a temperature that is text", lambda: panel.co2(Report.surface(35, "5"))),
+        ("a probe's number that is text", lambda: panel.channel(Report.surface(35, 5, probe="17"))),
+        ("a probe's number with a point", lambda: panel.needle(deep, Report.deep(35, 5, 0, probe=17.0))),
+        ("a surface's pressure, which is no number of a probe", lambda: Report.surface(35, 5, 100)),
+        ("a fourth float", lambda: Report.deep(35, 5, 100, 17)),
+        ("a missing probe's salinity", lambda: Report.missing(17)),
         ("a grid number with a point", lambda: panel.refusal(35.0, 5, 0)),
         ("a root's salinity with a point", lambda: panel.root(35.0, 16)),
         ("trials that are text", lambda: panel.root(35_000, "16")),
@@ -280,7 +459,7 @@ def told(refusal, *numbers):
     """What the module makes of a channel if the library answers this. No library is needed."""
 
     @CFUNCTYPE(*warpsorrel._CALLS["channel"])
-    def channel(kind, salinity, temperature, pressure, out):
+    def channel(kind, probe, salinity, temperature, pressure, out):
         out.contents[:] = numbers
         return refusal
 
@@ -297,6 +476,30 @@ def channel_places():
         hold(f"no remarks {numbers}", False, raised(ValueError, lambda: told(0, 11, -12, 13, 14, 15, *numbers)).startswith(NOTHING))
     for number in WORDS:
         same(f"refusal {number} has no remarks", Channel(Refusal(number), 0, 0, 0, 0, 0, None), told(number, *[0] * 8))
+
+
+def handed(name, ask):
+    """What the module hands to a call, up to what it lends; the call refuses it by 1. No library is needed."""
+    taken = []
+
+    @CFUNCTYPE(*warpsorrel._CALLS[name])
+    def call(*arguments):
+        taken.extend(given for given in arguments if isinstance(given, (int, float)))
+        return 1
+
+    panel = Panel.__new__(Panel)
+    panel._calls = SimpleNamespace(**{name: call})
+    ask(panel)
+    return taken
+
+
+def report_places():
+    left, right = Report.deep(1.5, 2.5, 3.5, probe=513), Report(Kind.NUMBERED_SURFACE, 4.5, 5.5, 6.5, 65_535)
+    l, r = [1, 513, 1.5, 2.5, 3.5], [18, 65_535, 4.5, 5.5, 6.5]
+    hold("what a channel is told", [l, r], [handed("channel", lambda panel: panel.channel(report)) for report in (left, right)])
+    hold("what ln K0 is told", [1, 1.5, 2.5, 3.5], handed("co2", lambda panel: panel.co2(left)))
+    hold("what a needle is told", l + r, handed("needle", lambda panel: panel.needle(left, right)))
+    hold("what a line is told", [7, *l, *r, 32], handed("line", lambda panel: panel.line(7, left, right)))
 
 
 def placed(number, steps):
@@ -335,11 +538,11 @@ def off_grid(panel):
 
 
 def other_versions():
-    with mock.patch.object(warpsorrel, "VERSION", 4):
-        says = f"{LIBRARY} is of version 3, and this module was written for version 4: take both from one copy"
+    with mock.patch.object(warpsorrel, "VERSION", 5):
+        says = f"{LIBRARY} is of version 4, and this module was written for version 5: take both from one copy"
         hold("another version", says, raised(LibraryError, Panel))
     with mock.patch.dict(warpsorrel._CALLS, {"none": (c_uint32,)}):
-        says = f"{LIBRARY} has no call warpsorrel_none: it is older than this module, which was written for version 3, or not Warpsorrel's"
+        says = f"{LIBRARY} has no call warpsorrel_none: it is older than this module, which was written for version 4, or not Warpsorrel's"
         hold("a call too few", says, raised(LibraryError, Panel))
 
 
@@ -386,15 +589,22 @@ def main():
     words()
     macros()
     declarations()
+    other_callers()
     format_page()
+    records()
     channel_places()
+    report_places()
     places()
     if can_load():
         answers(Panel())
+        two_kinds(Panel())
+        needles(Panel())
+        numbered_records(Panel())
+        shown_examples(Panel())
         off_grid(Panel())
         faults(Panel())
         other_versions()
-    for text in wrong:
+    for text in wrong[:20]:
         print(text)
     calls = "" if can_load() else " (its calls by capi/try alone: this machine is not x86-64)"
     print(f"module: {held} held{calls}, {len(wrong)} different")

@@ -1,6 +1,8 @@
 /* The driver's panel with one fault, to see that tests/calls.py finds it. Linked with --wrap for main and for every function below; the
- * driver's first argument is the fault's name, as it stands in has() here. Without one nothing is changed. */
+ * driver's first argument is the fault's name, as it stands in has() here; or a call's name and, past a colon and a blank, what stands in slips()
+ * here, of needle, line, pair or page, or in misreads(), of pair or page. Without one nothing is changed. */
 #include <stdio.h>
+#include <stdlib.h>
 #include <string.h>
 #include <xmmintrin.h>
 #include "warpsorrel.h"
@@ -19,6 +21,19 @@ static const char *fault = "";
 
 static int has(const char *name) {
     return strcmp(fault, name) == 0;
+}
+
+static int is_of(const char *call) {
+    size_t n = strlen(call);
+    return strncmp(fault, call, n) == 0 && strncmp(fault + n, ": ", 2) == 0;
+}
+
+static int slips(const char *call, const char *name) {
+    return is_of(call) && strcmp(fault + strlen(call) + 2, name) == 0;
+}
+
+static int misreads(const char *call, const char *name) {
+    return slips(call, name);
 }
 
 int __real_main(void);
@@ -53,6 +68,60 @@ float __wrap_warpsorrel_recorder(uint32_t shown) {
     if (has("recorder: ends one early") && shown == 16383999) return 0;
     if (has("recorder: 0 where denormals are flushed") && flushing()) return 0;
     return __real_warpsorrel_recorder(shown);
+}
+
+/* ---- kinds and numbers */
+
+static int is_numbered(uint32_t kind) {
+    return kind >= WARPSORREL_NUMBERED_DEEP && kind <= WARPSORREL_NUMBERED_MISSING;
+}
+
+static uint32_t old_kind(uint32_t kind) {
+    return is_numbered(kind) ? kind - 16 : kind;
+}
+
+static int is_known(uint32_t kind) {
+    return old_kind(kind) >= WARPSORREL_DEEP && old_kind(kind) <= WARPSORREL_MISSING;
+}
+
+/* A number that another is taken for; two that are taken for one are one probe's, and 0 is none. */
+static uint16_t slipped_number(const char *call, int is_right, uint16_t own, uint16_t other) {
+    uint16_t left = is_right ? other : own, right = is_right ? own : other;
+    if (slips(call, "numbers passed over")) return 0;
+    if (slips(call, "32 for number 0")) return own ? own : 0x5a5a;
+    if (slips(call, "32 for number 0 on the left")) return is_right || own ? own : right;
+    if (slips(call, "32 for two numbers")) return is_right && left && right ? left == right ? left ^ 0x4000 : left : own;
+    if (slips(call, "the left's number for both")) return left;
+    if (slips(call, "the right's number for both")) return right;
+    if (slips(call, "the low bytes alone compared")) return own ? own | 0xff00 : 0;
+    if (slips(call, "the high bytes alone compared")) return own ? own | 0x00ff : 0;
+    if (slips(call, "the last bit not compared")) return own ? own | 1 : 0;
+    if (slips(call, "the first bit not compared")) return own ? own | 0x8000 : 0;
+    if (slips(call, "numbers in 15 bits")) return own & 0x7fff;
+    if (slips(call, "no number where the low byte is 0")) return own & 0xff ? own : 0;
+    if (slips(call, "no number where the high byte is 0")) return own >> 8 ? own : 0;
+    if (slips(call, "the left's number big-endian")) return is_right ? own : (uint16_t)(own << 8 | own >> 8);
+    if (slips(call, "65,535 for no number")) return own == 65535 ? 0 : own;
+    return own;
+}
+
+/* What is answered for a needle: 32 in the place of another refusal or another in its place, and the densities beside it. */
+struct shown {
+    long refusal, left, right;
+    int is_left_hidden, is_right_hidden;
+};
+
+static void slip_at_32(const char *call, struct shown *s, int is_one_probe) {
+    if (slips(call, "32 before 101") && is_one_probe && s->refusal / 100 == 1) s->refusal = 32;
+    if (slips(call, "32 before 201") && is_one_probe && s->refusal / 100 == 2) s->refusal = 32;
+    if (slips(call, "32 before 101, but for a missing probe") && is_one_probe && s->refusal / 100 == 1 && s->refusal != 101) s->refusal = 32;
+    if (s->refusal != 32) return;
+    if (slips(call, "33 for 32")) s->refusal = 33;
+    if (slips(call, "132 for 32")) s->refusal = 132;
+    if (slips(call, "0 for 32")) s->refusal = 0;
+    if (slips(call, "32, and no left density")) s->left = 0, s->is_left_hidden = 1;
+    if (slips(call, "32, and no right density")) s->right = 0, s->is_right_hidden = 1;
+    if (slips(call, "32, and the left density twice")) s->right = s->left;
 }
 
 /* ---- channels: refused or not, and the remark of each float, with a slip */
@@ -118,25 +187,41 @@ static int64_t slipped(int place, float x, int64_t number, int64_t right) {
     return right;
 }
 
-uint32_t __wrap_warpsorrel_channel(uint32_t kind, float salinity, float temperature, float pressure, int64_t out[8]) {
+uint32_t __wrap_warpsorrel_channel(uint32_t kind, uint16_t probe, float salinity, float temperature, float pressure, int64_t out[8]) {
     int64_t was[8], other[8] = {0};
     memcpy(was, out, sizeof was);
+    if (has("channel: kind 17 refused by 7") && kind == 17) kind = 4;
+    if (has("channel: kind 18 refused by 7") && kind == 18) kind = 4;
+    if (has("channel: kind 19 refused by 7") && kind == 19) kind = 4;
+    if (has("channel: kind 17 read as surface") && kind == 17) kind = 2;
+    if (has("channel: kind 18 read as deep") && kind == 18) kind = 1;
+    if (has("channel: kind 19 read as surface") && kind == 19) kind = 2;
+    if (has("channel: kind 16 read as deep") && kind == 16) kind = 1;
+    if (has("channel: kind 20 missing") && kind == 20) kind = 3;
+    if (has("channel: the kind in eight bits") && kind < 65536) kind = (uint8_t)kind;
+    if (has("channel: the kind without its sixth bit") && is_known(kind & ~32u)) kind &= ~32u;
+    if (has("channel: a numbered kind refused without a number") && is_numbered(kind) && probe == 0) kind = 4;
+    if (has("channel: an old kind refused with a number") && is_known(kind) && !is_numbered(kind) && probe) kind = 4;
+    if (has("channel: a number of 16 bits refused") && probe > 32767) kind = 4;
     if (has("channel: a denormal salinity flushed")) salinity *= one;
     if (has("channel: a denormal pressure flushed")) pressure *= one;
     if (has("channel: the rounding mode changed")) _mm_setcsr(_mm_getcsr() | 0x6000);
-    uint32_t refusal = __real_warpsorrel_channel(kind, salinity, temperature, pressure, out);
-    int is_surface = kind == WARPSORREL_SURFACE;
+    uint32_t refusal = __real_warpsorrel_channel(kind, probe, salinity, temperature, pressure, out);
+    int is_surface = old_kind(kind) == WARPSORREL_SURFACE;
+    if (has("channel: the number added to the salinity") && !refusal) out[0] += probe;
+    if (has("channel: the number for the density") && !refusal && probe) out[3] = probe;
+    if (has("channel: a remark less with a number") && !refusal && probe) out[7] = 0;
     int64_t *remarks = out + 5, right[3] = {out[5], out[6], out[7]};
 
     /* refused: no remark */
     if (has("channel: refused, and the remarks not written") && refusal) memcpy(remarks, was + 5, sizeof right);
     if (has("channel: refused, and on for a remark") && refusal) remarks[0] = remarks[1] = remarks[2] = WARPSORREL_ON;
     if (has("channel: refused by 5, and the remarks left of salinity and temperature") && refusal == 5) {
-        __real_warpsorrel_channel(WARPSORREL_SURFACE, salinity, temperature, 0, other);
+        __real_warpsorrel_channel(WARPSORREL_SURFACE, 0, salinity, temperature, 0, other);
         memcpy(remarks, other + 5, 2 * sizeof *remarks);
     }
     if (has("channel: refused by 4, and the salinity's remark left") && refusal == 4) {
-        __real_warpsorrel_channel(WARPSORREL_SURFACE, salinity, 0, 0, other);
+        __real_warpsorrel_channel(WARPSORREL_SURFACE, 0, salinity, 0, 0, other);
         remarks[0] = other[5];
     }
     if (has("channel: missing, and on for a remark") && refusal == 1) remarks[2] = WARPSORREL_ON;
@@ -148,7 +233,7 @@ uint32_t __wrap_warpsorrel_channel(uint32_t kind, float salinity, float temperat
         if (!is_surface) remarks[2] = slipped(2, pressure, out[2], right[2]);
     }
     if (has("channel: a surface's pressure read for its remark") && is_surface && !refusal)
-        remarks[2] = __real_warpsorrel_channel(WARPSORREL_DEEP, salinity, temperature, pressure, other) ? right[2] : other[7];
+        remarks[2] = __real_warpsorrel_channel(WARPSORREL_DEEP, 0, salinity, temperature, pressure, other) ? right[2] : other[7];
     if (has("channel: above for a surface's NaN or infinity") && is_surface && !refusal && !is_finite(pressure)) remarks[2] = WARPSORREL_ABOVE;
     if (has("channel: 0 for a surface's pressure") && is_surface) remarks[2] = 0;
     if (has("channel: the pressure's remark not written")) remarks[2] = was[7];
@@ -292,14 +377,20 @@ uint32_t __wrap_warpsorrel_co2(uint32_t kind, float salinity, float temperature,
     if (has("co2: the kind in 16 bits")) kind = (uint16_t)kind;
     if (has("co2: a cut record refused by 7") && kind == WARPSORREL_CUT) kind = WARPSORREL_UNKNOWN;
     if (has("co2: a wrong length refused by 6") && kind == WARPSORREL_LENGTH) kind = WARPSORREL_CUT;
+    if (has("co2: kind 17 refused by 7") && kind == 17) kind = 4;
+    if (has("co2: kind 18 refused by 7") && kind == 18) kind = 4;
+    if (has("co2: kind 19 refused by 7") && kind == 19) kind = 4;
+    if (has("co2: kind 19 read") && kind == 19) kind = 2;
+    if (has("co2: kind 20 missing") && kind == 20) kind = 3;
     uint32_t right = __real_warpsorrel_co2(kind, salinity, temperature, pressure, out), refusal = right;
-    uint32_t dense = __real_warpsorrel_channel(kind, salinity, temperature, pressure, at), bits = bits_of(temperature);
-    int is_deep = kind == WARPSORREL_DEEP, is_read = is_deep || kind == WARPSORREL_SURFACE;
+    uint32_t dense = __real_warpsorrel_channel(kind, 0, salinity, temperature, pressure, at), bits = bits_of(temperature);
+    int is_deep = old_kind(kind) == WARPSORREL_DEEP, is_read = is_deep || old_kind(kind) == WARPSORREL_SURFACE;
 
     /* refused, or not */
     if (has("co2: 2 for a NaN in the pressure") && is_deep && pressure != pressure) refusal = 2;
     if (has("co2: 2 for an infinite pressure") && is_deep && !is_finite(pressure) && pressure == pressure) refusal = 2;
-    if (has("co2: 2 for a NaN in the pressure that a surface has not") && kind == WARPSORREL_SURFACE && pressure != pressure) refusal = 2;
+    if (has("co2: 2 for a NaN in the pressure that a surface has not") && is_read && !is_deep && pressure != pressure) refusal = 2;
+    if (has("co2: 2 for a NaN in the pressure of kind 17") && kind == 17 && pressure != pressure) refusal = 2;
     if (has("co2: 5 for a pressure outside its range") && dense == 5) refusal = 5;
     if (has("co2: refused as the density is")) refusal = dense;
     if (has("co2: 4 for minus zero") && !right && bits == 0x80000000) refusal = 4;
@@ -307,7 +398,7 @@ uint32_t __wrap_warpsorrel_co2(uint32_t kind, float salinity, float temperature,
     if (has("co2: 3 for a salinity of 42") && !right && bits_of(salinity) == 0x42280000) refusal = 3;
     if (has("co2: 3 before 2") && right == 2 && outside(salinity, 42)) refusal = 3;
     if (has("co2: 4 before 3") && right == 3 && outside(temperature, 40)) refusal = 4;
-    if (is_read) __real_warpsorrel_channel(WARPSORREL_SURFACE, salinity, temperature, 0, at);
+    if (is_read) __real_warpsorrel_channel(WARPSORREL_SURFACE, 0, salinity, temperature, 0, at);
     if (right == 4 && !outside(-temperature, 2)) {
         if (has("co2: 4 only below -2 degrees C")) refusal = 0;
         if (has("co2: 4 only where the grid number is below 0") && at[1] == 0) refusal = 0;
@@ -340,13 +431,40 @@ static int64_t greater(const int64_t l[8], const int64_t r[8]) {
     return l[2] > r[2] ? l[2] : r[2];
 }
 
-uint32_t __wrap_warpsorrel_needle(uint32_t lk, float ls, float lt, float lp, uint32_t rk, float rs, float rt, float rp, int64_t out[3]) {
-    int64_t l[8], r[8];
+uint32_t __wrap_warpsorrel_needle(uint32_t lk, uint16_t ln, float ls, float lt, float lp, uint32_t rk, uint16_t rn, float rs, float rt, float rp,
+                                  int64_t out[3]) {
+    int64_t l[8], r[8], was[3];
+    memcpy(was, out, sizeof was);
     if (has("needle: the right's temperature rounded in the mode there is") && (rt > 1 || rt < -1)) rt = rt + little;
-    uint32_t refusal = __real_warpsorrel_needle(lk, ls, lt, lp, rk, rs, rt, rp, out);
-    if (refusal) return refusal;
-    __real_warpsorrel_channel(lk, ls, lt, lp, l);
-    __real_warpsorrel_channel(rk, rs, rt, rp, r);
+    if (has("needle: kind 17 on the left refused by 7") && lk == 17) lk = 4;
+    if (has("needle: kind 18 on the right refused by 7") && rk == 18) rk = 4;
+    if (has("needle: kind 19 on the left refused by 7") && lk == 19) lk = 4;
+    if (has("needle: kind 19 on the right read") && rk == 19) rk = 2;
+    if (has("needle: kind 20 on the left missing") && lk == 20) lk = 3;
+    if (has("needle: the left's number passed over beside an old kind") && !is_numbered(lk)) ln = 0;
+    if (has("needle: the right's number passed over beside an old kind") && !is_numbered(rk)) rn = 0;
+    if (has("needle: the numbers of two deep readings passed over") && old_kind(lk) == 1 && old_kind(rk) == 1) ln = 0;
+    uint16_t left = slipped_number("needle", 0, ln, rn), right = slipped_number("needle", 1, rn, ln);
+    uint32_t refusal = __real_warpsorrel_needle(lk, left, ls, lt, lp, rk, right, rs, rt, rp, out);
+    struct shown shown = {refusal, out[0], out[1], 0, 0};
+    slip_at_32("needle", &shown, is_known(lk) && is_known(rk) && ln && ln == rn);
+    out[0] = shown.left;
+    out[1] = shown.right;
+    __real_warpsorrel_channel(lk, 0, ls, lt, lp, l);
+    __real_warpsorrel_channel(rk, 0, rs, rt, rp, r);
+    if (shown.refusal == 32) {
+        if (has("needle: 32, and the value left")) out[2] = needle_at(l, r, greater(l, r));
+        if (has("needle: 32, and the value not written")) out[2] = was[2];
+        if (has("needle: 32, and 32 for the value")) out[2] = 32;
+        if (has("needle: 32, and the left density at the common pressure")) out[0] = warpsorrel_density(l[0], l[1], greater(l, r));
+        if (has("needle: 32, and no word written")) memcpy(out, was, sizeof was);
+        if (has("needle: 32 only where the waters differ") && out[0] == out[1]) shown.refusal = 0;
+        if (has("needle: 32 only where the waters are alike") && out[0] != out[1]) {
+            out[2] = needle_at(l, r, greater(l, r));
+            shown.refusal = 0;
+        }
+    }
+    if (refusal || shown.refusal) return (uint32_t)shown.refusal;
     if (has("needle: the difference of the printed densities")) out[2] = out[1] - out[0];
     if (has("needle: at the lesser pressure")) out[2] = needle_at(l, r, lesser(l, r));
     if (has("needle: at the left's pressure")) out[2] = needle_at(l, r, l[2]);
@@ -367,26 +485,47 @@ static void put(uint8_t *out, size_t *count, const char *text) {
     memcpy(out, text, *count);
 }
 
-/* Each needle becomes the difference of the densities that stand beside it. */
-static void subtract(uint8_t *out, size_t *count) {
-    static char text[WARPSORREL_PAGE + 64];
+/* Each line of a page is changed, but for the header. */
+static void change_lines(uint8_t *out, size_t *count, void (*change)(char line[64])) {
+    static char text[2 * WARPSORREL_PAGE];
     size_t n = 0;
     text[0] = 0;
     for (size_t at = 0, end; at < *count; at = end) {
         char line[64] = "";
-        long number, left, right, needle;
         for (end = at; out[end++] != '\n';) {}
         memcpy(line, out + at, end - at);
-        if (sscanf(line, "%ld %ld %ld %ld", &number, &left, &right, &needle) == 4) {
-            sprintf(line, "%ld %ld %ld %ld\n", number, left, right, right - left);
-        }
+        if (at > 0) change(line);
         n += sprintf(text + n, "%s", line);
     }
     put(out, count, text);
 }
 
-uint32_t __wrap_warpsorrel_line(uint32_t number, uint32_t lk, float ls, float lt, float lp, uint32_t rk, float rs, float rt, float rp,
-                                uint8_t *out, size_t room, size_t *count) {
+/* The needle becomes the difference of the densities that stand beside it. */
+static void subtract(char line[64]) {
+    long number, left, right, needle;
+    if (sscanf(line, "%ld %ld %ld %ld", &number, &left, &right, &needle) == 4) {
+        sprintf(line, "%ld %ld %ld %ld\n", number, left, right, right - left);
+    }
+}
+
+/* A line with the slip of a needle in it; the header has no number and stays. */
+static void slip_in_line(const char *call, char line[64], int is_one_probe) {
+    char left[16], right[16], needle[16], *places[] = {left, right, needle};
+    unsigned number;
+    if (sscanf(line, "%u %15s %15s %15s", &number, left, right, needle) != 4) return;
+    struct shown is = {needle[0] == 'R' ? atol(needle + 1) : 0, atol(left), atol(right), 0, 0}, shown = is;
+    slip_at_32(call, &shown, is_one_probe);
+    if (shown.right != is.right) sprintf(right, "%ld", shown.right);
+    if (shown.is_left_hidden) strcpy(left, "R32");
+    if (shown.is_right_hidden) strcpy(right, "R32");
+    if (shown.refusal != is.refusal) sprintf(needle, shown.refusal ? "R%ld" : "%ld", shown.refusal);
+    int at = sprintf(line, "%u", number);
+    for (int i = 0; i < 3; i++) at += sprintf(line + at, " %s", places[i]);
+    sprintf(line + at, "\n");
+}
+
+uint32_t __wrap_warpsorrel_line(uint32_t number, uint32_t lk, uint16_t ln, float ls, float lt, float lp, uint32_t rk, uint16_t rn, float rs, float rt,
+                                float rp, uint8_t *out, size_t room, size_t *count) {
     size_t was = *count;
     if (has("line: 31 before 30") && (number == 0 || number > 9999)) {
         *count = 0;
@@ -402,9 +541,23 @@ uint32_t __wrap_warpsorrel_line(uint32_t number, uint32_t lk, float ls, float lt
     if (has("line: a cut record refused by 7") && rk == WARPSORREL_CUT) rk = WARPSORREL_UNKNOWN;
     if (has("line: a wrong length refused by 6") && lk == WARPSORREL_LENGTH) lk = WARPSORREL_CUT;
     if (has("line: a surface's pressure read") && rk == WARPSORREL_SURFACE && rp != rp) rk = WARPSORREL_DEEP;
-    uint32_t refusal = __real_warpsorrel_line(number, lk, ls, lt, lp, rk, rs, rt, rp, out, room, count);
+    if (has("line: kind 17 on the right refused by 7") && rk == 17) rk = 4;
+    if (has("line: kind 18 on the left refused by 7") && lk == 18) lk = 4;
+    if (has("line: kind 19 on the right refused by 7") && rk == 19) rk = 4;
+    if (has("line: kind 20 on the right missing") && rk == 20) rk = 3;
+    if (has("line: the left's number passed over beside an old kind") && !is_numbered(lk)) ln = 0;
+    if (has("line: the right's number passed over beside an old kind") && !is_numbered(rk)) rn = 0;
+    uint16_t left_number = slipped_number("line", 0, ln, rn), right_number = slipped_number("line", 1, rn, ln);
+    uint32_t refusal = __real_warpsorrel_line(number, lk, left_number, ls, lt, lp, rk, right_number, rs, rt, rp, out, room, count);
+    int is_one_probe = is_known(lk) && is_known(rk) && ln && ln == rn;
+    if (!refusal && is_of("line")) {
+        char text[64] = "";
+        memcpy(text, out, *count);
+        slip_in_line("line", text, is_one_probe);
+        put(out, count, text);
+    }
     int64_t l[8], r[8];
-    if (!refusal && !__real_warpsorrel_channel(lk, ls, lt, lp, l) && !__real_warpsorrel_channel(rk, rs, rt, rp, r)) {
+    if (!refusal && !is_one_probe && !__real_warpsorrel_channel(lk, 0, ls, lt, lp, l) && !__real_warpsorrel_channel(rk, 0, rs, rt, rp, r)) {
         char text[64];
         long left = l[3], right = r[3], is = needle_at(l, r, greater(l, r)), needle = is;
         if (has("line: the difference of the printed densities")) needle = right - left;
@@ -424,6 +577,123 @@ uint32_t __wrap_warpsorrel_line(uint32_t number, uint32_t lk, float ls, float lt
 
 /* ---- streams */
 
+struct record {
+    size_t past; /* where the next one starts */
+    uint32_t kind, length;
+    int is_whole, is_reading;
+    uint16_t number; /* 0 for one that has none */
+};
+
+static struct record record_at(const uint8_t *stream, size_t length, size_t at) {
+    struct record r = {length, 0, 0, 0, 0, 0};
+    if (length - at < 4) return r;
+    const uint8_t *head = stream + at;
+    r.length = head[0] | (uint32_t)head[1] << 8;
+    r.kind = head[2] | (uint32_t)head[3] << 8;
+    if (length - at - 4 < r.length) return r;
+    r.past = at + 4 + r.length;
+    r.is_whole = 1;
+    uint32_t old = old_kind(r.kind), floats = old == 1 ? 3 : old == 2 ? 2 : 0, before = is_numbered(r.kind) ? 2 : 0;
+    r.is_reading = is_known(r.kind) && r.length == before + 4 * floats;
+    if (r.is_reading && before) r.number = head[4] | head[5] << 8;
+    return r;
+}
+
+/* Whether the pair at a place, which moves past it, is of readings with one number. */
+static int next_is_one_probe(const uint8_t *stream, size_t length, size_t *at) {
+    struct record l = record_at(stream, length, *at), r = {length, 0, 0, 0, 0, 0};
+    if (l.past < length) r = record_at(stream, length, l.past);
+    *at = r.past;
+    return l.is_reading && r.is_reading && l.number && l.number == r.number;
+}
+
+static int is_one_probe_at(const uint8_t *stream, size_t length, size_t before) {
+    size_t at = 0;
+    int is_so = 0;
+    for (; at < length; before--) {
+        is_so = next_is_one_probe(stream, length, &at);
+        if (before == 0) return is_so;
+    }
+    return 0;
+}
+
+/* The lines of a page come in the order of their pairs. */
+static const uint8_t *page_stream;
+static size_t page_length, page_at;
+
+static void slip_in_next(char line[64]) {
+    slip_in_line("page", line, next_is_one_probe(page_stream, page_length, &page_at));
+}
+
+static void slip_in_page(const uint8_t *stream, size_t length, uint8_t *out, size_t *count) {
+    if (length > 60000) return;
+    page_stream = stream;
+    page_length = length;
+    page_at = 0;
+    change_lines(out, count, slip_in_next);
+}
+
+/* A whole record as it is misread: the record that is read so, rightly. Its length and kind are changed, and its body in its place. */
+static void misread(const char *call, uint32_t *kind, uint32_t *length, uint8_t *body) {
+    if (misreads(call, "kind 17 of 12 bytes, and no number") && *kind == 17) *kind = 1;
+    if (misreads(call, "kind 18 of 8 bytes, and no number") && *kind == 18) *kind = 2;
+    if (misreads(call, "kind 19 of 0 bytes, and no number") && *kind == 19) *kind = 3;
+    if (misreads(call, "kind 17 refused by 7") && *kind == 17) *kind = 4;
+    if (misreads(call, "kind 18 refused by 7") && *kind == 18) *kind = 4;
+    if (misreads(call, "kind 19 refused by 7") && *kind == 19) *kind = 4;
+    if (misreads(call, "kind 1 of 14 bytes, with a number") && *kind == 1) *kind = 17;
+    if (misreads(call, "kind 2 of 10 bytes taken") && *kind == 2 && *length == 10) *length = 8;
+    if (misreads(call, "kind 3 of 2 bytes taken") && *kind == 3 && *length == 2) *length = 0;
+    if (misreads(call, "kind 17 of 12 bytes taken") && *kind == 17 && *length == 12) *kind = 1;
+    if (misreads(call, "kind 19 of 0 bytes taken") && *kind == 19 && *length == 0) *kind = 3;
+    if (misreads(call, "kind 19 of any length from 2 on taken") && *kind == 19 && *length > 2) *length = 2;
+    if (misreads(call, "kind 17 of more than 14 bytes taken") && *kind == 17 && *length > 14) *length = 14;
+    if (misreads(call, "the kind in five bits") && *kind > 31) *kind &= 31;
+    if (misreads(call, "the kind in eight bits") && *kind > 255) *kind &= 255;
+    if (misreads(call, "the kind big-endian") && *kind) *kind = (*kind & 255) << 8 | *kind >> 8;
+    if (misreads(call, "kind 18 read as 17") && *kind == 18) *kind = 17;
+    if (misreads(call, "the number after the floats") && is_numbered(*kind) && *length >= 2) {
+        uint8_t last[2] = {body[*length - 2], body[*length - 1]};
+        memmove(body + 2, body, *length - 2);
+        memcpy(body, last, 2);
+    }
+    if (misreads(call, "the number between the floats") && is_numbered(*kind) && *length >= 6) {
+        uint8_t second[2] = {body[4], body[5]};
+        memmove(body + 2, body, 4);
+        memcpy(body, second, 2);
+    }
+    if (misreads(call, "the floats from the number on") && (*kind == 17 || *kind == 18) && *length >= 2) memmove(body + 2, body, *length - 2);
+}
+
+/* The stream as a call with this fault sees it. A long one is seen as it is: it would only take its time. */
+static const uint8_t *seen(const char *call, const uint8_t *stream, size_t *length) {
+    static uint8_t copy[1 << 15];
+    size_t to = 0, at = 0;
+    int is_right = 0;
+    uint16_t before = 0;
+    if (!is_of(call) || *length == 0 || *length > sizeof copy / 2) return stream;
+    for (; at < *length; is_right = !is_right) {
+        struct record r = record_at(stream, *length, at);
+        if (!r.is_whole) break;
+        uint16_t other = is_right ? before : r.past < *length ? record_at(stream, *length, r.past).number : 0;
+        uint16_t number = r.is_reading ? slipped_number(call, is_right, r.number, other) : 0;
+        uint32_t kind = r.kind, body = r.length, more = r.is_reading && !is_numbered(kind) && number ? 2 : 0;
+        memcpy(copy + to + 4 + more, stream + at + 4, body);
+        if (more) kind += 16;
+        if (more || (r.is_reading && is_numbered(kind))) memcpy(copy + to + 4, &number, 2);
+        body += more;
+        misread(call, &kind, &body, copy + to + 4);
+        uint8_t head[4] = {(uint8_t)body, (uint8_t)(body >> 8), (uint8_t)kind, (uint8_t)(kind >> 8)};
+        memcpy(copy + to, head, 4);
+        to += 4 + body;
+        before = r.number;
+        at = r.past;
+    }
+    memcpy(copy + to, stream + at, *length - at);
+    *length = to + *length - at;
+    return copy;
+}
+
 size_t __wrap_warpsorrel_pairs(const uint8_t *stream, size_t length) {
     size_t count = __real_warpsorrel_pairs(stream, length);
     if (has("pairs: 0 over 60,000 bytes") && length > 60000) return 0;
@@ -441,7 +711,20 @@ uint32_t __wrap_warpsorrel_pair(const uint8_t *stream, size_t length, size_t bef
     if (has("pair: before in 32 bits")) before = (uint32_t)before;
     if (has("pair: counted from 1") && before) before -= 1;
     if (has("pair: the first again") && before < __real_warpsorrel_pairs(stream, length)) before = 0;
-    uint32_t there = __real_warpsorrel_pair(stream, length, before, out);
+    size_t seen_length = length;
+    const uint8_t *seen_stream = seen("pair", stream, &seen_length);
+    uint32_t there = __real_warpsorrel_pair(seen_stream, seen_length, before, out);
+    struct shown shown = {out[6], out[1], out[4], 0, 0};
+    slip_at_32("pair", &shown, is_of("pair") && there && is_one_probe_at(stream, length, before));
+    out[6] = shown.refusal;
+    out[1] = shown.left;
+    out[4] = shown.right;
+    if (has("pair: 32, and the value left") && out[6] == 32) out[7] = out[4] - out[1];
+    if (has("pair: 32, and the value not written") && out[6] == 32) out[7] = was[7];
+    if (has("pair: 32, and no left bulk modulus") && out[6] == 32) out[2] = 0;
+    if (has("pair: 32, and no right bulk modulus") && out[6] == 32) out[5] = 0;
+    if (has("pair: 32, and the left refused by it") && out[6] == 32) out[0] = 32;
+    if (has("pair: 32, and no such pair") && out[6] == 32) there = 0;
     if (has("pair: the left's bulk modulus for the right")) out[5] = out[2];
     if (has("pair: the left's density for the right")) out[4] = out[1];
     if (has("pair: the needle of right and left")) out[7] = -out[7];
@@ -459,8 +742,11 @@ uint32_t __wrap_warpsorrel_page(const uint8_t *stream, size_t length, uint8_t *o
     if (has("page: the least room refused") && room == WARPSORREL_PAGE) room -= 1;
     if (has("page: none where it rounds to zero") && rounding(3)) length = 0;
     if (has("page: 60,001 bytes have a page") && length == 60001) length -= 1;
-    uint32_t refusal = __real_warpsorrel_page(stream, length, out, room, count);
-    if (has("page: the difference of the printed densities") && !refusal) subtract(out, count);
+    size_t seen_length = length;
+    const uint8_t *seen_stream = seen("page", stream, &seen_length);
+    uint32_t refusal = __real_warpsorrel_page(seen_stream, seen_length, out, room, count);
+    if (!refusal && is_of("page")) slip_in_page(stream, length, out, count);
+    if (has("page: the difference of the printed densities") && !refusal) change_lines(out, count, subtract);
     if (has("page: the byte past its end touched") && !refusal) out[*count] = 0;
     if (has("page: the byte before its start touched") && room) out[-1] = 0;
     if (has("page: refused, and the last byte written") && refusal && room) out[room - 1] = 0;

@@ -141,7 +141,7 @@ class Trial:
         for piece in (1, 3, 7):
             for stream in (EXAMPLE, ALL_KINDS[:-1], MISSING * 3 + b"\x08"):
                 self.slowly(stream, piece, 0.002)
-        self.slowly(ALL_KINDS * 300, 4_099, 0.005)
+        self.slowly(ALL_KINDS * 250, 4_099, 0.005)
         self.slowly(LONGEST, 30_000, 0.02)
         self.slowly(LONGEST + b"\0", 60_000, 0.02)
         with tempfile.TemporaryFile() as file:

@@ -20,7 +20,7 @@ from pathlib import Path
 import model
 from model import EXAMPLE, bits_of
 from programs import PATIENCE, ROOT, SAMPLE, Started, block, pipe_for_64k
-from streams import ALL_KINDS, LONGEST, MISSING, NANS, PLAIN, deep, surface
+from streams import ALL_KINDS, LONGEST, MISSING, NANS, PLAIN, deep, missing, surface
 
 RUN = ROOT / "run"
 PAGES = {"sheet": model.page, "details": model.details}
@@ -149,6 +149,10 @@ def texts(tries, room):
     Path(room, "alone.txt").write_bytes(b"deep 35 5 nan\nsurface 35 -1\n")
     alone = deep(*PLAIN[:2], NANS[0]) + surface(PLAIN[0], bits_of(-1))
     tries.run("a reading with ln K0 alone, and one with all but that", 0, model.details(alone), ["details", "alone.txt"], cwd=room)
+    Path(room, "probes.txt").write_bytes(b"deep 35 5 250 probe 513\nsurface 35 -1 probe 513\nmissing probe 258\nmissing\n")
+    probes = deep(*PLAIN, 513) + surface(PLAIN[0], bits_of(-1), 513) + missing(258) + MISSING
+    for name, expected in PAGES.items():
+        tries.run(f"{name} of one probe on both sides", 0, expected(probes), [name, "probes.txt"], cwd=room)
     written(Path(room, "pipe.txt"), TEXT.replace(b"\n", b"\r\n"))
     tries.run("text from a pipe with a name", 0, model.page(stream), ["pipe.txt"], cwd=room)
     for text, status, page, says in [
@@ -156,6 +160,7 @@ def texts(tries, room):
         (b"missing\n" * 15_002, 3, b"too long\n", "'slip.txt' has more than 60,000 bytes"),
         (b"missing\n", 0, model.page(MISSING), "make-stream: note: the last left"),
         (b"missing\nsurface 35,2 5\n", 2, b"", "make-stream: line 2: '35,2' is not a number"), (stream, 2, b"", "make-stream: line 1: "),
+        (b"missing\nmissing probe 65536\n", 2, b"", "make-stream: line 2: '65536' is not a probe's number"),
     ]:
         Path(room, "slip.txt").write_bytes(text)
         tries.run(f"text {text[:40]}", status, page, ["slip.txt"], says, cwd=room)
@@ -385,9 +390,10 @@ def numbers(document):
 def readme(tries):
     tries.holds("README.md: the sample page", model.EXAMPLE_PAGE.decode(), block("README.md", model.HEADER.decode().rstrip()))
     tries.run("./run crates/sheet/stdin", 0, model.EXAMPLE_PAGE, ["crates/sheet/stdin"], cwd=ROOT)
-    every = [*range(1, 9), 30, 31, *range(101, 109), *range(201, 209)]
+    every = [*range(1, 9), 30, 31, 32, *range(101, 109), *range(201, 209)]
     tries.holds("README.md: every refusal number, once", every, numbers("README.md"))
-    tries.holds("docs/FORMAT.md: kinds, and refusals of a reading", sorted([1, 2, 3, *range(1, 9)]), numbers("docs/FORMAT.md"))
+    kinds = [1, 2, 3, 17, 18, 19]
+    tries.holds("docs/FORMAT.md: kinds, and refusals of a reading and of a needle", sorted([*kinds, *range(1, 9), 32]), numbers("docs/FORMAT.md"))
 
 
 def main():

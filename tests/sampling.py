@@ -171,8 +171,8 @@ def asked(command, readings):
 
 
 def report(reading):
-    """Of three floats; of two a surface report, whose pressure is not read."""
-    return struct.pack("<I3f", 1, *reading) if len(reading) == 3 else struct.pack("<I3f", 2, *reading, float("nan"))
+    """Of three floats; of two a surface report, whose pressure is not read. The probe has no number."""
+    return struct.pack("<IH3f", 1, 0, *reading) if len(reading) == 3 else struct.pack("<IH3f", 2, 0, *reading, float("nan"))
 
 
 def channels(command, readings):

@@ -1,5 +1,5 @@
-"""Streams that are hard on a reader: every cut, kind and length, bad floats in every place, floats beside their grid points and on them, knife
-edges of the density and of ln K0, waters at two depths, seeded random ones."""
+"""Streams that are hard on a reader: every cut, kind and length, probe numbers on both sides, bad floats in every place, floats beside their grid
+points and on them, knife edges of the density and of ln K0, waters at two depths, seeded random ones."""
 import random
 import struct
 from itertools import product
@@ -14,22 +14,37 @@ def made(kind, body, length=None):
     return struct.pack("<HH", len(body) if length is None else length, kind) + body
 
 
-def deep(s, t, p):
-    return made(1, struct.pack("<III", s, t, p))
+# Floats of each kind, and whether the probe's number is before them.
+SENT = {1: (3, False), 2: (2, False), 3: (0, False), 17: (3, True), 18: (2, True), 19: (0, True)}
 
 
-def surface(s, t):
-    return made(2, struct.pack("<II", s, t))
+def record_of(kind, probe, *floats):
+    """A report's record. Floats past those of the kind are not sent, nor is a number where it has none."""
+    count, is_numbered = SENT[kind]
+    return made(kind, struct.pack("<H", probe) * is_numbered + struct.pack(f"<{count}I", *floats[:count]))
 
 
-def record_of(kind, s, t, p):
-    return deep(s, t, p) if kind == 1 else surface(s, t)
+def deep(s, t, p, probe=None):
+    """With a probe's number the kind is the numbered one."""
+    return record_of(1, 0, s, t, p) if probe is None else record_of(17, probe, s, t, p)
 
 
-MISSING = made(3, b"")
+def surface(s, t, probe=None):
+    return record_of(2, 0, s, t) if probe is None else record_of(18, probe, s, t)
+
+
+def missing(probe=None):
+    return record_of(3, 0) if probe is None else record_of(19, probe)
+
+
+MISSING = missing()
 # A water for every place: salinity 35, temperature 5, pressure 250. At the surface stands another, so that the two have a needle.
 PLAIN = [bits_of(x) for x in (35, 5, 250)]
-DEEP, SURFACE = deep(*PLAIN), surface(bits_of(31), bits_of(9))
+OTHER = [bits_of(x) for x in (31, 9)]
+DEEP, SURFACE = deep(*PLAIN), surface(*OTHER)
+# Numbers of probes. One whose bytes differ and the one with the bytes the other way round; those that are alike in one byte, or but for one bit.
+PROBE, TURNED = 0x0201, 0x0102
+PROBES = [0, 1, 2, 3, 17, 255, 256, 257, TURNED, PROBE, 0x0301, 0x0202, 0x1100, 0x7FFF, 0x8000, 0x8001, 0x8201, 0xFF00, 0xFFFE, 0xFFFF]
 
 NANS = [0x7FC00000, 0xFFC00000, 0x7F800001, 0xFF800001, 0x7FFFFFFF, 0xFFFFFFFF, 0x7FBFFFFF]
 INFINITIES = [0x7F800000, 0xFF800000]
@@ -73,13 +88,13 @@ REMARKED = [around(PLAIN[0]), [*around(PLAIN[1]), *around(bits_of(-1)), *around(
 
 
 def remarked_reports():
-    """Each with each, deep and at the surface, where the pressure is not read."""
-    return [(kind, *floats) for kind in (1, 2) for floats in product(*REMARKED)]
+    """Each with each, deep and at the surface, where the pressure is not read; one probe's number and another's in turn."""
+    floats = list(product(*REMARKED))
+    return [(kind, (0, PROBE, TURNED)[i % 3] if kind > 3 else 0, *some) for kind in (1, 2, 17, 18) for i, some in enumerate(floats)]
 
 
-def with_place(place, bits, kind=1):
-    floats = [*PLAIN[:place], bits, *PLAIN[place + 1 :]]
-    return deep(*floats) if kind == 1 else surface(*floats[:2])
+def with_place(place, bits, kind=1, probe=0):
+    return record_of(kind, probe, *PLAIN[:place], bits, *PLAIN[place + 1 :])
 
 
 def both_sides(records):
@@ -101,59 +116,99 @@ def cut_to_fit(records):
 
 
 # One of everything: each kind, refused floats, unknown kinds and wrong lengths, a body that looks like records; readings with a density and no
-# ln K0, and the other way round.
+# ln K0, and the other way round; one probe on both sides.
 ALL_KINDS = b"".join(
-    [DEEP, SURFACE, MISSING, surface(PLAIN[0], NANS[0]), made(17, MISSING + SURFACE[:5]), made(2, DEEP[4:]), made(3, MISSING),
+    [DEEP, SURFACE, MISSING, surface(PLAIN[0], NANS[0]), made(16, MISSING + SURFACE[:5]), made(2, DEEP[4:]), made(3, MISSING),
      deep(PLAIN[0], PLAIN[1], 0x447A0001), made(1, b""), SURFACE, surface(PLAIN[0], bits_of(-1)), deep(PLAIN[0], PLAIN[1], NANS[0]),
+     deep(*PLAIN, PROBE), surface(*OTHER, PROBE), missing(PROBE), surface(*OTHER, TURNED), made(17, MISSING + SURFACE[:5]), made(19, b""),
      made(4, b"\1\2\3\4\5")]
 )
-KINDS = [0, 1, 2, 3, 4, 5, 16, 17, 255, 256, 257, 258, 512, 768, 65535]
-SHORT_LENGTHS = [0, 1, 4, 7, 8, 9, 11, 12, 13]
-LENGTHS = [*SHORT_LENGTHS, 255, 256, 264, 268, 2048, 3072]
+KINDS = [0, 1, 2, 3, 4, 5, 15, 16, 17, 18, 19, 20, 21, 33, 34, 35, 49, 255, 256, 257, 258, 273, 274, 275, 512, 768, 4352, 4608, 4864, 65535]
+SHORT_LENGTHS = [0, 1, 2, 3, 4, 7, 8, 9, 10, 11, 12, 13, 14, 15, 16]
+LENGTHS = [*SHORT_LENGTHS, 255, 256, 258, 264, 266, 268, 270, 512, 2048, 2560, 3072, 3584]
 
 
-def filling(length):
-    """A body of valid floats."""
-    return (SURFACE[4:] * (length // 8 + 1))[:length]
+def filling(kind, length):
+    """A body of valid floats, after a number where the kind has one."""
+    number = struct.pack("<H", PROBE) if kind in SENT and SENT[kind][1] else b""
+    return (number + SURFACE[4:] * (length // 8 + 1))[:length]
 
 
 def heads():
     """Every kind with every length, all in one stream; the short ones alone before a good record and cut by a byte; the
     greatest length, and bodies that just fit or just do not."""
-    yield from cut_to_fit([made(k, filling(n)) for k in KINDS for n in LENGTHS])
-    short = [made(k, filling(n)) for k in (0, 1, 2, 3, 4, 17, 256, 513, 65535) for n in SHORT_LENGTHS]
+    yield from cut_to_fit([made(k, filling(k, n)) for k in KINDS for n in LENGTHS])
+    short = [made(k, filling(k, n)) for k in (0, 1, 2, 3, 4, 16, 17, 18, 19, 20, 256, 513, 65535) for n in SHORT_LENGTHS]
     yield from (r + SURFACE for r in short)
     yield from (r[:-1] for r in short)
-    for k in (1, 2, 3, 4):
+    for k in (1, 2, 3, 4, 17, 18, 19):
         for length, held in ((65_535, 0), (65_535, 12), (65_535, 40_000), (59_997, 59_996), (59_996, 59_996), (59_992, 59_992)):
-            head = made(k, filling(held), length)
+            head = made(k, filling(k, held), length)
             yield head
             yield MISSING + head[:59_996]
 
 
 def every_kind():
-    """All 65,536 kinds, with no body, and with the body that a surface reading has."""
-    for body, count in ((b"", 15_000), (SURFACE[4:], 5_000)):
+    """All 65,536 kinds, with no body, with the body that a surface reading has, with a number and with both."""
+    number = struct.pack("<H", PROBE)
+    for body, count in ((b"", 15_000), (SURFACE[4:], 5_000), (number, 10_000), (number + SURFACE[4:], 4_284)):
         records = [made(k, body) for k in range(65_536)]
         yield from (b"".join(records[i : i + count]) for i in range(0, len(records), count))
 
 
 def trailing():
     for count in range(5):
-        for rest in (b"\0\0\0", b"\x08\x00\x02", b"\x00\x00\x03", b"\xff\xff\xff"):
+        for rest in (b"\0\0\0", b"\x08\x00\x02", b"\x00\x00\x03", b"\x02\x00\x13", b"\xff\xff\xff"):
             for n in (0, 1, 2, 3):
                 yield SURFACE * count + rest[:n]
                 yield (MISSING + made(5, b"ab")) * count + rest[:n]
+                yield missing(PROBE) * count + rest[:n]
+
+
+# Of one probe: what has a density, and one of each refusal of a reading, deep and at the surface.
+WAYS = [
+    (17, *PLAIN), (18, *OTHER), (19,), (17, *PLAIN[:2], NANS[0]), (18, INFINITIES[0], PLAIN[1]), (17, bits_of(43), *PLAIN[1:]),
+    (18, PLAIN[0], bits_of(-3)), (17, *PLAIN[:2], bits_of(-1)),
+]
+
+
+def probes():
+    """Of every two numbered kinds that give a density: each number on both sides, beside its neighbour, and each with each. Every kind with every
+    kind's length. Every two kinds, old and numbered, with one number, with two and with 0, all in a row and each pair alone; every two ways to read or
+    refuse a probe that is on both sides, two probes, or probes without a number; all that beside records that give no reading; every cut of three
+    pairs, in a number too."""
+    plain = {1: PLAIN, 2: OTHER, 3: [], 17: PLAIN, 18: OTHER, 19: []}
+
+    def two(kinds, numbers):
+        return b"".join(record_of(kind, number, *plain[kind]) for kind, number in zip(kinds, numbers))
+
+    for kinds in product((17, 18), repeat=2):
+        for numbers in (zip(PROBES, PROBES), zip(PROBES, PROBES[1:]), product(PROBES, repeat=2)):
+            yield b"".join(two(kinds, both) for both in numbers)
+    yield from both_sides([made(kind, filling(kind, length)) for kind in SENT for length in (0, 2, 8, 10, 12, 14, 16)])
+    some = [(PROBE, PROBE), (PROBE, TURNED), (TURNED, PROBE), (0, 0), (0, PROBE), (PROBE, 0), (0xFFFF, 0xFFFF)]
+    pairs_of_kinds = [two(kinds, numbers) for kinds, numbers in product(product(SENT, repeat=2), some)]
+    yield from both_sides(pairs_of_kinds)
+    yield from dict.fromkeys(pairs_of_kinds)
+    ways = [[record_of(kind, number, *floats) for kind, *floats in WAYS] for number in (PROBE, TURNED, 0)]
+    for left, right in product(ways, repeat=2):
+        yield b"".join(one + other for one, other in product(left, right))
+    number = struct.pack("<H", PROBE)
+    none = [made(9, number), made(17, number), made(19, b""), made(18, SURFACE[4:])]
+    yield b"".join(pair for one, other in product(ways[0], none) for pair in (one + other, other + one))
+    three = two((17, 18), (PROBE, PROBE)) + two((19, 17), (PROBE, PROBE)) + two((18, 18), (PROBE, TURNED))
+    yield from (three[:n] for n in range(len(three) + 1))
 
 
 def refusal_order(rng):
-    """Good and bad in each place, each with each."""
+    """Good and bad in each place, each with each, of the old kinds and of one probe."""
     bad = [
         [PLAIN[i], 0x7FC00000, 0xFF800000, bits_of(low - 1), around(bits_of(high))[2]]
         for i, (low, high, _, _) in enumerate(QUANTITIES)
     ]
     bad[1] += [bits_of(-1), 0x80000001, 0x80000000]  # good enough for a density
-    records = [deep(s, t, p) for s in bad[0] for t in bad[1] for p in bad[2]] + [surface(s, t) for s in bad[0] for t in bad[1]]
+    reports = [*product((1,), (0,), *bad), *product((2,), (0,), *bad[:2]), *product((17,), (PROBE,), *bad), *product((18,), (PROBE,), *bad[:2])]
+    records = [record_of(*report) for report in reports]
     yield from both_sides(records)
     rng.shuffle(records)
     yield from both_sides(records)
@@ -162,9 +217,9 @@ def refusal_order(rng):
 def float_streams(rng):
     for place in range(3):
         every = specials(place)
-        for kind in (1, 2):
-            if kind == 1 or place < 2:
-                yield from both_sides([with_place(place, b, kind) for b in every])
+        for kind in (1, 2, 17, 18):
+            if place < SENT[kind][0]:
+                yield from both_sides([with_place(place, b, kind, PROBES[i % len(PROBES)]) for i, b in enumerate(every)])
         yield from cut_to_fit([with_place(place, b) for b in halves(place, rng) + points(place, rng)])
     yield from both_sides(dict.fromkeys(record_of(*report) for report in remarked_reports()))
     mixed = [deep(*(rng.choice(specials(i)) for i in range(3))) for _ in range(3_000)]
@@ -219,7 +274,8 @@ def co2_reports():
     pressures = [bits_of(250), *NANS, *INFINITIES, bits_of(-1), 0x447A0001]
     for i, (s, t) in enumerate(water for some in CO2_EDGES.values() for water in some):
         floats = bits_of(s / 1_000), bits_of(t / 1_000)
-        yield from ((kind, *floats, p) for kind, p in ((2, NANS[0]), (1, pressures[0]), (1, pressures[1 + i % (len(pressures) - 1)])))
+        yield from ((kind, 0, *floats, p) for kind, p in ((2, NANS[0]), (1, pressures[0]), (1, pressures[1 + i % (len(pressures) - 1)])))
+        yield from ((kind, PROBES[i % len(PROBES)], *floats, p) for kind, p in ((18, NANS[1]), (17, pressures[1 + i % (len(pressures) - 1)])))
 
 
 def co2_edges():
@@ -253,7 +309,7 @@ DEPTHS = {
 def reports(s, t, p):
     """A water on the grid as its probe may report it; at the surface with a pressure that is not read too."""
     salinity, temperature = bits_of(s / 1_000), bits_of(t / 1_000)
-    deep_report, surface_report = (1, salinity, temperature, bits_of(p / 100)), (2, salinity, temperature, bits_of(1_000))
+    deep_report, surface_report = (1, 0, salinity, temperature, bits_of(p / 100)), (2, 0, salinity, temperature, bits_of(1_000))
     return [deep_report, surface_report] if p == 0 else [deep_report]
 
 
@@ -282,6 +338,9 @@ def sizes(rng):
 
 # Every pair needs 8 bytes at least, but a cut last one, and a longer record never pays for the line it costs.
 LONGEST = MISSING * 15_000
+# The table of details: a record refused by 7 has the widest cells for 4 bytes. The last pair is cut, and what it does not need is enough for three
+# numbers of five digits.
+LONGEST_TABLE = made(9, b"") * 14_995 + missing(54_321) * 3 + b"\0\0"
 WIDEST_LINES = (deep(bits_of(42), bits_of(-2), bits_of(1_000)) + deep(0, bits_of(40), bits_of(1_000))) * 1_875
 
 
@@ -297,17 +356,22 @@ def any_float(place, rng):
     return rng.getrandbits(32)
 
 
+def any_probe(rng):
+    """None, or a number, so that two that follow each other often have one."""
+    return rng.choice((None, None, None, 0, PROBE, PROBE, PROBE, TURNED, rng.choice(PROBES), rng.getrandbits(16)))
+
+
 def any_record(rng):
-    way = rng.random()
+    way, probe = rng.random(), any_probe(rng)
     if way < 0.42:
-        return deep(*(any_float(i, rng) for i in range(3)))
+        return deep(*(any_float(i, rng) for i in range(3)), probe)
     if way < 0.80:
-        return surface(*(any_float(i, rng) for i in range(2)))
+        return surface(*(any_float(i, rng) for i in range(2)), probe)
     if way < 0.90:
-        return MISSING
+        return missing(probe)
     if way < 0.95:
-        return made(rng.choice(KINDS), filling(rng.choice((0, 8, 12))))
-    return made(rng.randint(1, 3), filling(rng.choice(SHORT_LENGTHS)))
+        return made(kind := rng.choice(KINDS), filling(kind, rng.choice((0, 2, 8, 10, 12, 14))))
+    return made(kind := rng.choice(list(SENT)), filling(kind, rng.choice(SHORT_LENGTHS)))
 
 
 def mutated(stream, rng):
@@ -317,11 +381,11 @@ def mutated(stream, rng):
     if way == 0:
         changed[at] ^= 1 << rng.randrange(8)
     elif way == 1:
-        changed[at] = rng.choice((0, 1, 2, 3, 4, 8, 12, 0x7F, 0x80, 0xFF, rng.randrange(256)))
+        changed[at] = rng.choice((0, 1, 2, 3, 4, 8, 10, 12, 14, 17, 18, 19, 0x7F, 0x80, 0xFF, rng.randrange(256)))
     elif way == 2:
         del changed[at]
     elif way == 3:
-        changed.insert(at, rng.choice((0, 1, 2, 3, 8, 12, rng.randrange(256))))
+        changed.insert(at, rng.choice((0, 1, 2, 3, 8, 10, 12, 14, 17, 18, 19, rng.randrange(256))))
     elif way == 4:
         del changed[at:]
     else:
@@ -333,7 +397,7 @@ def mutated(stream, rng):
 def any_stream(rng):
     way = rng.random()
     if way < 0.06:  # bytes that make plausible heads
-        return bytes(rng.choice((0, 0, 0, 1, 2, 3, 4, 8, 12)) for _ in range(rng.randrange(80)))
+        return bytes(rng.choice((0, 0, 0, 0, 0, 1, 2, 3, 4, 8, 10, 12, 14, 17, 18, 19)) for _ in range(rng.randrange(80)))
     count = rng.randrange(200) if way > 0.95 else rng.randrange(24)
     stream = b"".join(any_record(rng) for _ in range(count))
     for _ in range(rng.choice((0, 0, 1, 1, 2, 3))):
@@ -344,8 +408,9 @@ def any_stream(rng):
 
 def late_readings():
     """Readings, left and right unlike, after many pairs of missing probes: numbers of pairs that readings alone do not reach."""
+    one, other = deep(*PLAIN, PROBE), surface(*OTHER, PROBE)
     for before in (9, 99, 999, 3_749, 5_000, 6_143, 7_495):
-        for pair in (DEEP + SURFACE, SURFACE + DEEP):
+        for pair in (DEEP + SURFACE, SURFACE + DEEP, one + other, other + one):
             yield MISSING * (2 * before) + pair
 
 
@@ -354,9 +419,12 @@ def hard_streams():
     yield from (EXAMPLE[:n] for n in range(len(EXAMPLE) + 1))
     for whole in (ALL_KINDS, MISSING + ALL_KINDS):
         yield from (whole[:n] for n in range(len(whole) + 1))
-    for part in (heads(), every_kind(), trailing(), refusal_order(rng), float_streams(rng), knife_edges(), co2_edges(), depths(), sizes(rng)):
+    yield from (model.NUMBERED[:n] for n in range(len(model.NUMBERED) + 1))
+    for part in (heads(), every_kind(), trailing(), probes(), refusal_order(rng), float_streams(rng)):
         yield from part
-    yield from (LONGEST, LONGEST[4:], LONGEST + b"\0", WIDEST_LINES, WIDEST_LINES[16:])
+    for part in (knife_edges(), co2_edges(), depths(), sizes(rng)):
+        yield from part
+    yield from (LONGEST, LONGEST[4:], LONGEST + b"\0", LONGEST_TABLE, LONGEST_TABLE + b"\0", WIDEST_LINES, WIDEST_LINES[16:])
     yield from (SURFACE * n for n in (1, 2, 3, 7, 99, 2_499, 5_000))
     yield from late_readings()
     yield from (any_stream(rng) for _ in range(RANDOM_STREAMS))
@@ -379,11 +447,12 @@ def covered_remarks(every):
     """All remarks, each with each, are among what is tried, on either side; at the surface the pressure's is always the same. Both signs of
     a temperature have each."""
     some = [(side, report) for stream in every if len(stream) <= 60_000 for pair in model.reports(stream) for side, report in enumerate(pair)]
-    wanted = {(kind, *remarks) for kind in (1, 2) for remarks in product((BELOW, ON, ABOVE), repeat=3) if kind == 1 or remarks[2] == ON}
+    every_remark = list(product((BELOW, ON, ABOVE), repeat=3))
+    wanted = {(kind, *remarks) for kind in (1, 2, 17, 18) for remarks in every_remark if kind in (1, 17) or remarks[2] == ON}
     for side in (0, 1):
         here = {report for its, report in some if its == side and not channel(*report).refusal}
         assert {(report[0], *channel(*report).remarks) for report in here} == wanted
-        assert {(report[2] >> 31, channel(*report).remarks[1]) for report in here} == set(product((0, 1), (BELOW, ON, ABOVE)))
+        assert {(report[3] >> 31, channel(*report).remarks[1]) for report in here} == set(product((0, 1), (BELOW, ON, ABOVE)))
 
 
 def covered_co2(every):
@@ -392,14 +461,78 @@ def covered_co2(every):
     for side in (0, 1):
         assert {(channel(*pair[side]).refusal, co2(*pair[side]).refusal) for pair in some} == BOTH_REFUSALS
     tried = {report for pair in some for report in pair}
-    assert {report[: 1 + model.FLOATS[report[0]]] for report in co2_reports()} <= tried
+    assert {report[: 2 + SENT[report[0]][0]] for report in co2_reports()} <= tried
     fewer = {"15 terms for ln 3": {"ln3_terms": 15}, "3 terms for the rest": {"log_terms": 3}}
     assert all(model.solubility(*water) != model.solubility(*water, **terms) for name, terms in fewer.items() for water in CO2_EDGES[name])
+
+
+# Whether two accepted channels are one probe's, not as it should be.
+WRONG_PROBES = {
+    "never": lambda left, right: False,
+    "0 as any other number": lambda left, right: left == right,
+    "always where the left has a number": lambda left, right: left != 0,
+    "always where the right has a number": lambda left, right: right != 0,
+    "where the numbers differ": lambda left, right: left != right and left != 0 and right != 0,
+    "the low bytes alone": lambda left, right: left % 256 == right % 256 and left != 0 and right != 0,
+    "the high bytes alone": lambda left, right: left // 256 == right // 256 and left != 0 and right != 0,
+    "no number where the low byte is 0": lambda left, right: left == right and left % 256 != 0,
+    "no number where the high byte is 0": lambda left, right: left == right and left // 256 != 0,
+    "15 bits": lambda left, right: left % 2**15 == right % 2**15 != 0,
+    "the left's bytes turned": lambda left, right: left % 256 * 256 + left // 256 == right != 0,
+    "65,535 for none": lambda left, right: left == right and left not in (0, 65_535),
+}
+# A whole record of a numbered kind not as it should be read: as the one that is given here, rightly.
+WRONG_RECORDS = {
+    "the number's bytes turned": lambda kind, body: (kind, body[1::-1] + body[2:]),
+    "the number after the floats": lambda kind, body: (kind, body[-2:] + body[:-2]),
+    "the number's low byte alone": lambda kind, body: (kind, body[:1] + b"\0" * len(body[1:2]) + body[2:]),
+    "the number passed over": lambda kind, body: (kind, b"\0" * len(body[:2]) + body[2:]),
+    "as of the old kinds": lambda kind, body: (kind - 16, body),
+    "as of the old kinds, past its number": lambda kind, body: (kind - 16, body[2:]),
+    "as of no kind": lambda kind, body: (4, body),
+    "missing without its number": lambda kind, body: (kind, b"\0\0" if body == b"" and kind == 19 else body),
+    "missing with a greater body": lambda kind, body: (kind, body[:2] if kind == 19 else body),
+    "a number where there is none": lambda kind, body: (kind, b"\0\0" + body if len(body) in (8, 12) else body),
+}
+
+
+def read_as(wrong, stream):
+    """The stream whose right page is the page of this one with its numbered records read wrongly."""
+    found, at = [], 0
+    while len(stream) - at >= 4:
+        length, kind = struct.unpack_from("<HH", stream, at)
+        if len(stream) - at - 4 < length:
+            break
+        body, at = stream[at + 4 : at + 4 + length], at + 4 + length
+        found.append(made(*wrong(kind, body) if kind in (17, 18, 19) else (kind, body)))
+    return b"".join(found) + stream[at:]
+
+
+def covered_probes(every):
+    """One probe on both sides is among what is tried by every two kinds that have a number and give a density; so are every two numbers of those
+    listed, which show each wrong way to compare two, and every two refusals of readings with one number. Each wrong way to read a numbered record
+    shows in the table and, but for bytes turned on both sides, on the page."""
+    short = [stream for stream in every if len(stream) <= 60_000]
+    some = [(left, right, needle(channel(*left), channel(*right)).refusal) for stream in short for left, right in model.reports(stream)]
+    probed = [(left, right, refusal) for left, right, refusal in some if left[0] in SENT and right[0] in SENT]
+    assert {(left[0], right[0]) for left, right, refusal in probed if refusal == 32} == set(product((17, 18), repeat=2))
+    accepted = {(left[1], right[1], refusal) for left, right, refusal in probed if refusal in (0, 32)}
+    assert {(one, other) for one, other, _ in accepted} >= set(product(PROBES, repeat=2))
+    for name, wrong in WRONG_PROBES.items():
+        assert any(wrong(one, other) != (refusal == 32) for one, other, refusal in accepted), name
+    alike = {(channel(*left).refusal, channel(*right).refusal) for left, right, _ in probed if left[1] == right[1] != 0}
+    assert alike >= set(product(range(6), repeat=2))
+    brief = [stream for stream in short if len(stream) < 600]
+    for name, wrong in WRONG_RECORDS.items():
+        assert any(model.details(read_as(wrong, stream)) != model.details(stream) for stream in brief), name
+        if "bytes turned" not in name:
+            assert any(page(read_as(wrong, stream)) != page(stream) for stream in brief), name
 
 
 def covered(every):
     """Every refusal number on either side and every sign of a needle is among what is tried, and where each wrong needle lies the other way."""
     covered_co2(every)
+    covered_probes(every)
     found = set()
     for stream in every:
         if len(stream) <= 60_000:
@@ -407,11 +540,11 @@ def covered(every):
                 refused, n = needle(left, right)
                 found |= {("left", left.refusal), ("right", right.refusal), ("needle", refused or (n > 0) - (n < 0))}
     wanted = {(side, n) for side in ("left", "right") for n in range(9)}
-    wanted |= {("needle", n) for n in (-1, 0, 1, *range(101, 109), *range(201, 209))}
+    wanted |= {("needle", n) for n in (-1, 0, 1, 32, *range(101, 109), *range(201, 209))}
     assert found == wanted, found ^ wanted
     two_depths = [pair for stream in set(depths()) & set(every) for pair in pairs(stream)]
     for name, wrong in WRONG_NEEDLES.items():
         assert {sign for sign in (-1, 1) for pair in two_depths if needle(*pair).value * sign > 0 > wrong(*pair) * sign} == {-1, 1}, name
     late = [(left, right) for stream in every if len(stream) <= 60_000 for left, right in pairs(stream)[7_400:] if not left.refusal and not right.refusal]
-    assert {(n > 0) - (n < 0) for left, right in late for _, n in [needle(left, right)]} >= {-1, 1}
+    assert {refused or (n > 0) - (n < 0) for left, right in late for refused, n in [needle(left, right)]} >= {-1, 1, 32}
     assert len(page(LONGEST)) == LONGEST_PAGE and page(LONGEST).endswith(b"\n7500 R1 R1 R101\n")

@@ -7,11 +7,29 @@ use crate::recipe::Formula;
 use crate::Tally;
 use std::collections::BTreeSet;
 
-/// A kind and three floats. Deep (1) reads all three, surface (2) the first two, missing (3) none.
+/// A kind, the probe's number and three floats, of which the kind reads the first so many.
 #[derive(Clone, Copy, Debug)]
 pub struct Report {
     pub kind: u32,
+    pub probe: u16,
     pub floats: [Float; 3],
+}
+
+/// The kinds, and how many floats each reads: deep, surface and missing, without a number in the record and with one.
+pub const KINDS: [(u32, usize); 6] = [(1, 3), (2, 2), (3, 0), (17, 3), (18, 2), (19, 0)];
+
+/// What stands for a record refused by 6 and by 8.
+pub const CUT: u32 = 65_542;
+pub const LENGTH: u32 = 65_544;
+
+/// How many floats a kind reads, or what it is refused by.
+pub fn floats_of(kind: u32) -> Result<usize, u32> {
+    let found = KINDS.iter().find(|(own, _)| *own == kind);
+    found.map(|(_, count)| *count).ok_or(match kind {
+        CUT => 6,
+        LENGTH => 8,
+        _ => 7,
+    })
 }
 
 /// A refusal's number, or the three grid numbers, the shown density, the bulk modulus and the remarks of salinity, temperature and pressure.
@@ -30,12 +48,11 @@ pub const QUANTITIES: [Quantity; 3] = [
     Quantity { low: 0, high: 1_000, per_unit: 100, refusal: 5 },
 ];
 
+/// Whatever the number is.
 pub fn channel(formula: &Formula, report: &Report) -> Channel {
-    let floats = match report.kind {
-        1 => &report.floats[..],
-        2 => &report.floats[..2],
-        3 => return Err(1),
-        _ => return Err(7),
+    let floats = match floats_of(report.kind)? {
+        0 => return Err(1),
+        count => &report.floats[..count],
     };
     if floats.iter().any(|f| f.exact().is_none()) {
         return Err(2);
@@ -56,19 +73,31 @@ pub fn channel(formula: &Formula, report: &Report) -> Channel {
 impl Report {
     pub fn put(&self, bytes: &mut Vec<u8>) {
         bytes.extend(self.kind.to_le_bytes());
+        bytes.extend(self.probe.to_le_bytes());
+        self.put_floats(bytes);
+    }
+
+    /// For a call that takes no number.
+    pub fn put_without_number(&self, bytes: &mut Vec<u8>) {
+        bytes.extend(self.kind.to_le_bytes());
+        self.put_floats(bytes);
+    }
+
+    fn put_floats(&self, bytes: &mut Vec<u8>) {
         self.floats.iter().for_each(|f| bytes.extend(f.0.to_le_bytes()));
     }
 
     /// In range everywhere, anywhere.
     pub fn ordinary(kind: u32, random: &mut Random) -> Report {
-        Report { kind, floats: [0, 1, 2].map(|place| in_range(place, random)) }
+        Report { kind, probe: any_probe(random), floats: [0, 1, 2].map(|place| in_range(place, random)) }
     }
 
     /// At grid numbers, by any floats that are put there; at pressure 0 deep or surface.
     pub fn at(numbers: [i64; 3], random: &mut Random) -> Report {
-        let report = Report { kind: 1, floats: [0, 1, 2].map(|place| put_on(place, numbers[place], random)) };
+        let floats = [0, 1, 2].map(|place| put_on(place, numbers[place], random));
+        let report = Report { kind: any_of([1, 17], random), probe: any_probe(random), floats };
         if numbers[2] == 0 && random.between(0, 1) == 0 {
-            return Report { kind: 2, ..report.with(2, in_range(2, random)) };
+            return Report { kind: report.kind + 1, ..report.with(2, in_range(2, random)) };
         }
         report
     }
@@ -76,6 +105,20 @@ impl Report {
     pub fn with(mut self, place: usize, float: Float) -> Report {
         self.floats[place] = float;
         self
+    }
+}
+
+pub fn any_of<T: Copy, const N: usize>(some: [T; N], random: &mut Random) -> T {
+    some[random.between(0, N as i64 - 1) as usize]
+}
+
+/// Two that are drawn are often the same, and as often 0.
+pub fn any_probe(random: &mut Random) -> u16 {
+    match random.between(0, 9) {
+        0..=3 => 0,
+        4..=6 => 0x0201,
+        7 => any_of([0x0102, 1, 0x0100, u16::MAX], random),
+        _ => random.next() as u16,
     }
 }
 
@@ -124,7 +167,7 @@ fn compare(panel: &Panel, formula: &Formula, seen: &mut BTreeSet<u32>, name: &'s
 fn examples() -> Vec<(Report, Result<[i64; 6], u32>)> {
     const ON: [i64; 3] = [2; 3];
     let at = |numbers: [i64; 3], remarks: [i64; 3]| Ok([numbers[0], numbers[1], numbers[2], remarks[0], remarks[1], remarks[2]]);
-    let plain = Report { kind: 1, floats: [Float(0x420c_0000), Float(0x40a0_0000), Float(0x42c8_0000)] };
+    let plain = Report { kind: 1, probe: 0, floats: [Float(0x420c_0000), Float(0x40a0_0000), Float(0x42c8_0000)] };
     let with = |place, bits| plain.with(place, Float(bits));
     let (minus_zero, nan, signalling, infinite) = (0x8000_0000, 0x7fc0_0000, 0x7f80_0001, INFINITE);
     vec![
@@ -133,6 +176,14 @@ fn examples() -> Vec<(Report, Result<[i64; 6], u32>)> {
         (Report { kind: 3, ..plain }, Err(1)),
         (Report { kind: 0, ..plain }, Err(7)),
         (Report { kind: 4, ..plain }, Err(7)),
+        // with a number, and by the kinds of records that carry one
+        (Report { probe: 513, ..plain }, at([35_000, 5_000, 10_000], ON)),
+        (Report { kind: 17, probe: 513, ..plain }, at([35_000, 5_000, 10_000], ON)),
+        (Report { kind: 17, probe: 0, ..plain }, at([35_000, 5_000, 10_000], ON)),
+        (Report { kind: 18, probe: u16::MAX, ..with(2, nan) }, at([35_000, 5_000, 0], ON)),
+        (Report { kind: 19, probe: 513, ..with(0, nan) }, Err(1)),
+        (Report { kind: 16, probe: 513, ..plain }, Err(7)),
+        (Report { kind: 20, probe: 513, ..plain }, Err(7)),
         // 0.0625 and -0.0625: halves go up, and are below then
         (with(1, 0x3d80_0000), at([35_000, 63, 10_000], [2, 1, 2])),
         (with(1, 0xbd80_0000), at([35_000, -62, 10_000], [2, 1, 2])),
@@ -188,7 +239,7 @@ fn everywhere(floats: &[Float]) -> Vec<Report> {
     let mut random = Random(4);
     let mut reports = Vec::new();
     for place in 0..3 {
-        for kind in [1, 2] {
+        for kind in [1, 2, 17, 18] {
             reports.extend(floats.iter().map(|f| Report::ordinary(kind, &mut random).with(place, *f)));
         }
     }
@@ -222,6 +273,7 @@ fn halves() -> Vec<Report> {
         for below in q.low * q.per_unit..q.high * q.per_unit {
             let half = Float::nearest((2 * below + 1).into(), (2 * q.per_unit).into());
             for kind in if place == 2 { 1..=1 } else { 1..=2 } {
+                let kind = kind + any_of([0, 16], &mut random);
                 reports.extend(half.around(2).map(|f| Report::ordinary(kind, &mut random).with(place, f)));
             }
         }
@@ -238,26 +290,27 @@ fn bad_with_bad() -> Vec<Report> {
         [low, high, below, Float(high.0 + 1)].into_iter().chain(wild.map(Float)).collect::<Vec<_>>()
     };
     let [salinities, temperatures, pressures] = [0, 1, 2].map(|i| bag(&QUANTITIES[i]));
-    let mut reports = Vec::new();
-    for kind in [1, 2, 3].into_iter().chain(WRONG_KINDS) {
+    let (mut reports, mut random) = (Vec::new(), Random(26));
+    for kind in KINDS.map(|(kind, _)| kind).into_iter().chain(WRONG_KINDS) {
         for s in &salinities {
             for t in &temperatures {
-                reports.extend(pressures.iter().map(|p| Report { kind, floats: [*s, *t, *p] }));
+                reports.extend(pressures.iter().map(|p| Report { kind, probe: any_probe(&mut random), floats: [*s, *t, *p] }));
             }
         }
     }
     reports
 }
 
-/// Kinds that are none of 1, 2, 3, though some are if only their low bits are read.
-pub const WRONG_KINDS: [u32; 12] = [0, 4, 5, 6, 7, 8, 255, 257, 0x1_0002, 0x8000_0001, 0x0300_0003, u32::MAX];
+/// Kinds that are none of the six, though some are if only their low bits are read, or all but one.
+pub const WRONG_KINDS: [u32; 20] =
+    [0, 4, 5, 6, 7, 8, 9, 16, 20, 33, 49, 255, 257, 273, 0x1100, 0x1_0002, 0x1_0011, 0x8000_0001, 0x0300_0003, u32::MAX];
 
 /// One place from all bit patterns alike or from its range, the others ordinary; deep and surface.
 fn anywhere(place: usize) -> Vec<Report> {
     let mut random = Random(6 + place as u64);
     let mut reports = Vec::new();
     for i in 0..2_000_000 {
-        let report = Report::ordinary(1 + i % 2, &mut random);
+        let report = Report::ordinary(1 + i % 2 + 16 * (i / 4 % 2), &mut random);
         reports.push(if i % 4 < 2 { report.with(place, Float(random.next() as u32)) } else { report });
     }
     reports

@@ -1,7 +1,7 @@
 //! How much carbon dioxide a water will hold: ln K0 of Weiss (1974), as the handbook of CO2 measurements has it in its equation (30). It is held to
 //! the definition once more, in 128-bit whole numbers, and to the equation itself, between two bounds that the true value lies between.
 
-use crate::channel::{self, Report};
+use crate::channel::{self, any_of, floats_of, Report, CUT, LENGTH};
 use crate::floats::{Float, INFINITE};
 use crate::panel::{long, Panel};
 use crate::random::Random;
@@ -106,12 +106,8 @@ impl Definition {
 
     /// Of a report, by its salinity and temperature alone.
     fn co2(&self, report: &Report) -> Co2 {
-        match report.kind {
-            1 | 2 => (),
-            3 => return Err(1),
-            CUT => return Err(6),
-            LENGTH => return Err(8),
-            _ => return Err(7),
+        if floats_of(report.kind)? == 0 {
+            return Err(1);
         }
         let [salinity, temperature, _] = report.floats;
         if salinity.exact().is_none() || temperature.exact().is_none() {
@@ -126,10 +122,6 @@ impl Definition {
         Ok(self.ln_k0(salinity.grid(1_000), temperature.grid(1_000)))
     }
 }
-
-/// What stands for a record refused by 6 and by 8.
-const CUT: u32 = 65_542;
-const LENGTH: u32 = 65_544;
 
 // ---- the equation, in units of 10^-25: low and high, the true value between them
 
@@ -195,13 +187,13 @@ impl Equation {
 
 // ---- the panel
 
-fn request(report: &Report, bytes: &mut Vec<u8>) {
+pub fn request(report: &Report, bytes: &mut Vec<u8>) {
     bytes.push(b'o');
-    report.put(bytes);
+    report.put_without_number(bytes);
 }
 
 /// The panel's answer; a refusal comes with a nought.
-fn answer(bytes: [u8; 16]) -> Co2 {
+pub fn answer(bytes: [u8; 16]) -> Co2 {
     match (long(&bytes, 0), long(&bytes, 1)) {
         (0, value) => Ok(value),
         (number, 0) => Err(number.try_into().unwrap()),
@@ -215,7 +207,7 @@ fn at(sigma: i64, tau: i64, random: &mut Random) -> Report {
     // half a step below 0 degrees C is put on 0, and refused
     let report = if tau == 0 { report.with(1, Float::nearest(random.between(0, 49).into(), 100_000)) } else { report };
     let pressure = [0x7fc0_0000, 0xff80_0001, INFINITE, 0x447a_0001, 0x8000_0001, random.next() as u32];
-    Report { kind: random.between(1, 2) as u32, ..report.with(2, Float(pressure[random.between(0, 5) as usize])) }
+    Report { kind: any_of([1, 2, 17, 18], random), ..report.with(2, Float(pressure[random.between(0, 5) as usize])) }
 }
 
 /// Holds the panel to the definition and to the equation at grid numbers. The largest error goes on in `largest`.
@@ -306,7 +298,7 @@ fn anywhere() -> Vec<(i64, i64)> {
 fn records() -> Vec<Report> {
     let mut random = Random(15);
     let mut reports = Vec::new();
-    for kind in [CUT, LENGTH, 65_541, 65_543, 65_545, 65_537, 65_538, 65_539] {
+    for kind in [CUT, LENGTH, 65_541, 65_543, 65_545, 65_537, 65_538, 65_539, 65_553, 65_554, 65_555] {
         reports.extend((0..100).map(|i| Report { kind, ..Report::ordinary(1, &mut random).with(i % 3, Float(random.next() as u32)) }));
     }
     reports
@@ -318,7 +310,7 @@ fn cold() -> Vec<Report> {
     let mut floats: Vec<Float> = (-2_000..=0).map(|tau| Float::nearest(tau, 1_000)).collect();
     floats.extend((0..50).flat_map(|bits| [Float(bits), Float(bits).negated()]));
     let mut reports = Vec::new();
-    for kind in [1, 2] {
+    for kind in [1, 2, 17, 18] {
         reports.extend(floats.iter().map(|f| Report::ordinary(kind, &mut random).with(1, *f)));
     }
     reports

@@ -6,6 +6,7 @@ mod floats;
 mod grid;
 mod needle;
 mod panel;
+mod probes;
 mod random;
 mod recipe;
 mod recorder;
@@ -45,6 +46,7 @@ fn main() {
     tallies.extend(remarks::all(&panel, &formula));
     tallies.extend(co2::all(&panel));
     tallies.extend(needle::all(&panel, &formula));
+    tallies.extend(probes::all(&panel, &formula));
     tallies.extend(recorder::all(&panel));
     let mut wrong = 0;
     for t in &tallies {

@@ -1,6 +1,7 @@
-//! The needle of two reports, both waters at the greater of the two pressures; every pair is asked both ways round.
+//! The needle of two reports, both waters at the greater of the two pressures; every pair is asked both ways round. probes.rs has more of those that
+//! are one probe's.
 
-use crate::channel::{channel, Channel, Report, WRONG_KINDS};
+use crate::channel::{any_of, channel, floats_of, Channel, Report, WRONG_KINDS};
 use crate::floats::{Float, INFINITE};
 use crate::grid::DENSITIES;
 use crate::panel::{long, Panel};
@@ -9,10 +10,10 @@ use crate::recipe::Formula;
 use crate::Tally;
 use std::collections::BTreeSet;
 
-type Pair = [Report; 2];
+pub type Pair = [Report; 2];
 
 /// A refusal's number, left density, right density, needle.
-type Reply = [i64; 4];
+pub type Reply = [i64; 4];
 
 fn shown(formula: &Formula, [s, t]: [i64; 2], p: i64) -> i64 {
     formula.water(s, t, p).unwrap().0.into()
@@ -24,19 +25,20 @@ fn difference(formula: &Formula, left: &[i64; 8], right: &[i64; 8], p: i64) -> i
     at(*right) - at(*left)
 }
 
-/// The densities stand at their own pressures, the needle at the greater of the two.
-fn expected(formula: &Formula, left: &Channel, right: &Channel) -> Reply {
+/// The densities stand at their own pressures, the needle at the greater of the two; there is none where both have one probe's number.
+pub fn expected(formula: &Formula, left: (&Channel, u16), right: (&Channel, u16)) -> Reply {
     let density = |c: &Channel| c.map_or(0, |eight| eight[3]);
-    let (l, r) = (density(left), density(right));
-    match (left, right) {
+    let (l, r) = (density(left.0), density(right.0));
+    match (left.0, right.0) {
         (Err(n), _) => [100 + i64::from(*n), l, r, 0],
         (_, Err(n)) => [200 + i64::from(*n), l, r, 0],
+        _ if left.1 == right.1 && left.1 > 0 => [32, l, r, 0],
         (Ok(a), Ok(b)) => [0, l, r, difference(formula, a, b, a[2].max(b[2]))],
     }
 }
 
 /// Left and right, then right and left.
-fn request(pair: &Pair, bytes: &mut Vec<u8>) {
+pub fn request(pair: &Pair, bytes: &mut Vec<u8>) {
     for (left, right) in [(0, 1), (1, 0)] {
         bytes.push(b'n');
         pair[left].put(bytes);
@@ -44,7 +46,7 @@ fn request(pair: &Pair, bytes: &mut Vec<u8>) {
     }
 }
 
-fn replies(bytes: [u8; 64]) -> [Reply; 2] {
+pub fn replies(bytes: [u8; 64]) -> [Reply; 2] {
     [0, 4].map(|first| [0, 1, 2, 3].map(|i| long(&bytes, first + i)))
 }
 
@@ -58,28 +60,31 @@ fn published(panel: &Panel, formula: &Formula) -> Tally {
         for (right, _) in &DENSITIES[..8] {
             let deepest = left[2].max(right[2]);
             let needle = printed(*right, deepest) - printed(*left, deepest);
-            let pair = [left, right].map(|at| Report::at(*at, &mut random));
-            pairs.push((pair, [0, printed(*left, left[2]), printed(*right, right[2]), needle]));
+            for probes in [[0, 0], [513, 258], [513, 513]] {
+                let pair = [(left, probes[0]), (right, probes[1])].map(|(at, probe)| Report { probe, ..Report::at(*at, &mut random) });
+                let (refusal, needle) = if probes == [513, 513] { (32, 0) } else { (0, needle) };
+                pairs.push((pair, [refusal, printed(*left, left[2]), printed(*right, right[2]), needle]));
+            }
         }
     }
     panel.ask(&pairs, |x, bytes| request(&x.0, bytes), |(pair, said), bytes| {
         let [left, right] = pair.map(|report| channel(formula, &report));
         tally.same(replies(bytes)[0], *said, pair);
-        tally.same(expected(formula, &left, &right), *said, pair);
+        tally.same(expected(formula, (&left, pair[0].probe), (&right, pair[1].probe)), *said, pair);
     });
     tally
 }
 
 /// Deep and surface in range; missing, wrong kinds and refused floats, one bad place or several.
-fn from_bag(random: &mut Random) -> Report {
-    let kind = random.between(1, 2) as u32;
+pub fn from_bag(random: &mut Random) -> Report {
+    let kind = any_of([1, 2, 17, 18], random);
     let report = Report::ordinary(kind, random);
     let place = random.between(0, 2) as usize;
     let bad = [0x7fc0_0000, 0xff80_0001, INFINITE, 0x4900_0000, 0xc900_0000, 0xc000_0001, 0x447a_0001, random.next() as u32];
     let mut a_bad_one = || Float(bad[random.between(0, 7) as usize]);
     let (first, second) = (a_bad_one(), a_bad_one());
     match random.between(0, 9) {
-        0 => Report { kind: 3, ..report.with(place, first) },
+        0 => Report { kind: any_of([3, 19], random), ..report.with(place, first) },
         1 => Report { kind: WRONG_KINDS[random.between(0, WRONG_KINDS.len() as i64 - 1) as usize], ..report.with(place, first) },
         2 | 3 => report.with(place, first),
         4 => report.with(place, first).with((place + 1) % 3, second),
@@ -87,15 +92,15 @@ fn from_bag(random: &mut Random) -> Report {
     }
 }
 
-/// The right is the left but for one float or the kind, so that a number taken from the wrong side is seen.
+/// The right is the left but for one float or the kind, and the probe, so that a number taken from the wrong side is seen.
 fn one_apart(random: &mut Random) -> Pair {
-    let left = Report::ordinary(random.between(1, 2) as u32, random);
-    let other = Report::ordinary(3 - left.kind, random);
+    let left = Report::ordinary(any_of([1, 2, 17, 18], random), random);
+    let other = Report::ordinary(left.kind ^ 3, random);
     let right = match random.between(0, 3) as usize {
         3 => Report { kind: other.kind, ..left },
         place => left.with(place, other.floats[place]),
     };
-    [left, right]
+    [left, Report { probe: other.probe, ..right }]
 }
 
 fn depth(random: &mut Random) -> i64 {
@@ -147,7 +152,7 @@ fn sorts(formula: &Formula, pair: &Pair, left: &[i64; 8], right: &[i64; 8], need
     let (at_left, at_right) = if left[2] < right[2] { (at_lesser, needle) } else { (needle, at_lesser) };
     let opposite = |n: i64| n.signum() * needle.signum() < 0;
     let one_water = left[..2] == right[..2];
-    let unread = pair.iter().filter(|r| r.kind == 2 && r.floats[2].within(0, 1_000)).map(|r| r.floats[2].grid(100)).max();
+    let unread = pair.iter().filter(|r| floats_of(r.kind) == Ok(2) && r.floats[2].within(0, 1_000)).map(|r| r.floats[2].grid(100)).max();
     let at_unread = unread.filter(|p| *p > left[2].max(right[2])).map(|p| difference(formula, left, right, p));
     [
         ("left heavier", needle < 0),
@@ -176,6 +181,7 @@ pub fn all(panel: &Panel, formula: &Formula) -> Vec<Tally> {
 
     let mut tally = Tally::new("needles");
     let mut swapped = Tally::new("needles, sides swapped");
+    let mut refused = Tally::new("needles of one probe, refused by 32 both ways round, both densities given");
     let mut none = Tally::new("needles of one water at two depths: 0");
     let mut level = Tally::new("needles at one pressure: the printed difference");
     let mut seen = BTreeSet::new();
@@ -183,11 +189,15 @@ pub fn all(panel: &Panel, formula: &Formula) -> Vec<Tally> {
     panel.ask(&pairs, request, |pair, bytes| {
         let [one, other] = replies(bytes);
         let [left, right] = [0, 1].map(|i| channel(formula, &pair[i]));
-        let second = expected(formula, &left, &right);
+        let probes = pair.map(|report| report.probe);
+        let second = expected(formula, (&left, probes[0]), (&right, probes[1]));
         tally.same(one, second, pair);
-        tally.same(other, expected(formula, &right, &left), pair);
+        tally.same(other, expected(formula, (&right, probes[1]), (&left, probes[0])), pair);
         seen.extend([one[0], other[0]]);
-        if let (Ok(l), Ok(r)) = (left, right) {
+        let (Ok(l), Ok(r)) = (left, right) else { return };
+        if probes[0] == probes[1] && probes[0] != 0 {
+            refused.same([one, other], [[32, l[3], r[3], 0], [32, r[3], l[3], 0]], pair);
+        } else {
             swapped.same(other, [0, one[2], one[1], -one[3]], pair);
             if l[..2] == r[..2] {
                 none.same(one[3], 0, pair);
@@ -202,9 +212,10 @@ pub fn all(panel: &Panel, formula: &Formula) -> Vec<Tally> {
     });
     println!("second program: needles tried: {}", counts.map(|(sort, count)| format!("{count} {sort}")).join(", "));
     assert!(counts.iter().all(|count| count.1 > 10_000), "too few needles of a sort are tried");
+    assert!(refused.tried > 50_000, "one probe is too seldom on both sides");
 
     let mut refusals = Tally::new("refusals of needles, all seen");
-    let all = BTreeSet::from([0, 101, 102, 103, 104, 105, 107, 201, 202, 203, 204, 205, 207]);
+    let all = BTreeSet::from([0, 32, 101, 102, 103, 104, 105, 107, 201, 202, 203, 204, 205, 207]);
     refusals.same(seen, all, &"all pairs");
-    vec![published(panel, formula), tally, swapped, none, level, refusals]
+    vec![published(panel, formula), tally, swapped, refused, none, level, refusals]
 }

@@ -25,6 +25,11 @@ impl Panel {
 
     /// Sends each item's request and hands its answer, of N bytes, to `take`.
     pub fn ask<T: Send + Sync, const N: usize>(&self, items: &[T], request: fn(&T, &mut Vec<u8>), mut take: impl FnMut(&T, [u8; N])) {
+        self.ask_by(items, request, |item, from| take(item, bytes(from)));
+    }
+
+    /// Sends each item's request and lets `take` read its answer.
+    pub fn ask_by<T: Send + Sync>(&self, items: &[T], request: fn(&T, &mut Vec<u8>), mut take: impl FnMut(&T, &mut dyn Read)) {
         let mut driver = self.start();
         let mut to = BufWriter::with_capacity(1 << 16, driver.stdin.take().unwrap());
         let mut from = std::thread::scope(|scope| {
@@ -40,9 +45,7 @@ impl Panel {
                 to.flush().expect("the driver stopped reading");
             });
             for item in items {
-                let mut answer = [0; N];
-                from.read_exact(&mut answer).expect("the driver stopped answering");
-                take(item, answer);
+                take(item, &mut from);
             }
             from
         });
@@ -51,6 +54,13 @@ impl Panel {
         assert!(more.is_empty(), "the driver answered more than it was asked");
         assert!(driver.wait().unwrap().success(), "the driver failed");
     }
+}
+
+/// The next N bytes of the answers.
+pub fn bytes<const N: usize>(from: &mut dyn Read) -> [u8; N] {
+    let mut answer = [0; N];
+    from.read_exact(&mut answer).expect("the driver stopped answering");
+    answer
 }
 
 /// The i-th 32-bit number of an answer.

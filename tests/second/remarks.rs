@@ -2,7 +2,7 @@
 //! number, and by four laws; the whole answer is held to channel.rs too. Tried are all floats about every grid point and every half, those
 //! next to zero, and random patterns.
 
-use crate::channel::{answer, channel, in_range, request, Report, Sort, QUANTITIES};
+use crate::channel::{answer, any_of, any_probe, channel, floats_of, in_range, request, Report, Sort, QUANTITIES};
 use crate::floats::{Float, INFINITE};
 use crate::panel::Panel;
 use crate::random::Random;
@@ -105,13 +105,14 @@ fn compare(panel: &Panel, formula: &Formula, laws: &mut Laws, name: &str, report
         tally.same(said, channel(formula, report), report);
         let Ok(eight) = said else { return };
         let small = |word: i64| i32::try_from(word).unwrap_or(i32::MIN);
-        for place in 0..if report.kind == 1 { 3 } else { 2 } {
+        let count = floats_of(report.kind).unwrap_or(0);
+        for place in 0..count {
             let said = Said { place: place as u8, float: report.floats[place], number: small(eight[place]), remark: small(eight[5 + place]) };
             let (value, point, _) = said.in_parts();
             tally.same(side(said.remark), Some(value.cmp(&point)), &said);
             laws.take(said);
         }
-        if report.kind == 2 {
+        if count == 2 {
             tally.same((eight[2], eight[7]), (0, 2), report);
         }
     });
@@ -147,8 +148,14 @@ fn all_about(place: usize, low: i64, high: i64) -> Vec<Float> {
 /// pressure is not read.
 fn beside_each_other(floats: [Vec<Float>; 3]) -> Vec<Report> {
     let most = floats.iter().map(Vec::len).max().unwrap();
-    let at = |i: usize| [0, 1, 2].map(|place| floats[place][i % floats[place].len()]);
-    (0..most).map(|i| Report { kind: 1, floats: at(i) }).chain((0..most / 8).map(|i| Report { kind: 2, floats: at(8 * i) })).collect()
+    let mut random = Random(27);
+    let mut at = |i: usize, kinds| {
+        let kind = any_of(kinds, &mut random);
+        Report { kind, probe: any_probe(&mut random), floats: [0, 1, 2].map(|place| floats[place][i % floats[place].len()]) }
+    };
+    let mut reports: Vec<Report> = (0..most).map(|i| at(i, [1, 17])).collect();
+    reports.extend((0..most / 8).map(|i| at(8 * i, [2, 18])));
+    reports
 }
 
 /// All that lie in the ranges.
@@ -181,7 +188,7 @@ fn next_to_zero() -> Vec<Report> {
     let mut reports = Vec::new();
     for float in floats.into_iter().flat_map(|bits| [Float(bits), Float(bits).negated()]) {
         for place in 0..3 {
-            reports.extend([1, 2].map(|kind| Report::ordinary(kind, &mut random).with(place, float)));
+            reports.extend([1, 2, 17, 18].map(|kind| Report::ordinary(kind, &mut random).with(place, float)));
         }
     }
     reports
@@ -190,7 +197,8 @@ fn next_to_zero() -> Vec<Report> {
 /// All patterns alike in all three places.
 fn any_patterns() -> Vec<Report> {
     let mut random = Random(19);
-    (0..1_000_000).map(|i| Report { kind: 1 + i % 2, floats: [0; 3].map(|_| Float(random.next() as u32)) }).collect()
+    let mut any = |kind| Report { kind, probe: random.next() as u16, floats: [0; 3].map(|_| Float(random.next() as u32)) };
+    (0..1_000_000).map(|i| any([1, 2, 17, 18][i % 4])).collect()
 }
 
 /// Any pattern with a sign that the range has and an exponent up to its greatest, mostly near that. Or all parts of the range alike. Or a multiple of
@@ -214,9 +222,9 @@ fn patterns_of_the_ranges() -> Vec<Report> {
     let mut random = Random(20);
     let mut reports = Vec::new();
     for i in 0..1_000_000 {
-        let report = Report { kind: 1 + i % 2, floats: [0, 1, 2].map(|place| biased(place, &mut random)) };
+        let report = Report { kind: [1, 2, 17, 18][i % 4], probe: i as u16, floats: [0, 1, 2].map(|place| biased(place, &mut random)) };
         let unread = [0x7fc0_0000, 0xff80_0001, INFINITE, 0x8000_0001, random.next() as u32, report.floats[2].0, random.next() as u32];
-        reports.push(if report.kind == 2 { report.with(2, Float(unread[i as usize % 7])) } else { report });
+        reports.push(if i % 2 == 1 { report.with(2, Float(unread[i % 7])) } else { report });
     }
     reports
 }

@@ -7,8 +7,10 @@ use lib.IntN.{ℤ, pos}
 use lib.Ieee.{Float}
 use Rattle.refusals.specs.declared.Unread.{Unread}
 use Rattle.floats.specs.Grid.{remarkNumber}
-use Rattle.readings.specs.declared.Report.{Report}
 use Rattle.readings.specs.declared.Entry.{Entry}
+use Rattle.kinds.specs.declared.Kind.{Kind}
+use Rattle.kinds.specs.declared.Kind.the-variants.{Known, Unknown}
+use Rattle.kinds.specs.Kinds.{kindOf, reportOf}
 use Rattle.channels.specs.declared.Channel.{Channel}
 use Rattle.channels.specs.declared.Comparison.{Comparison}
 use Rattle.channels.specs.Numbers.{channelNumber, channelDensity, channelBulk, needleNumber, needleValue}
@@ -16,18 +18,21 @@ use Rattle.streams.specs.declared.Found.{Found}
 
 -- the ABI's own number: it goes up when a call that was there changes what it takes or what it answers
 abbrev pub version : ℕ
-version = 3
+version = 4
 
--- a kind, as a record's, and its floats: 1 deep, 2 surface, 3 missing. 65,536 plus 6 or 8, which no record has for a kind, stands for a record that
--- was refused by 6 or 8; any other kind, 65,536 plus 7 among them, is refused by 7 as a record's is
-unfoldable pub entryOf : ℕ → Float → Float → Float → Entry
-entryOf kind s t p =
-    cond (eqb kind 1) (Entry.Reading (Report.Deep s t p))
-    (cond (eqb kind 2) (Entry.Reading (Report.Surface s t))
-    (cond (eqb kind 3) (Entry.Reading Report.Missing)
-    (cond (eqb kind 65542) (Entry.Refused Unread.Cut)
-    (cond (eqb kind 65544) (Entry.Refused Unread.Length)
-    (Entry.Refused Unread.Kind)))))
+-- 65,536 plus 6 or 8, which no record has for a kind, stands for a record that was refused by 6 or 8; any other kind that the table does not have, 65,536 plus 7
+-- among them, is refused by 7 as a record's is
+abbrev pub unreadOf : ℕ → Unread
+unreadOf kind = cond (eqb kind 65542) Unread.Cut (cond (eqb kind 65544) Unread.Length Unread.Kind)
+
+-- a kind of the table, and what it says of the floats; the number is given beside it, whichever family the kind is of
+abbrev pub entryBy : ℕ → ℕ → Float → Float → Float → Kind → Entry
+entryBy kind probe s t p (Known row) = Entry.Reading probe (reportOf (row .holds) s t p)
+entryBy kind probe s t p Unknown = Entry.Refused (unreadOf kind)
+
+-- what a kind, a probe's number and three floats stand for
+unfoldable pub entryOf : ℕ → ℕ → Float → Float → Float → Entry
+entryOf kind probe s t p = entryBy kind probe s t p (kindOf kind)
 
 -- a channel's grid numbers, density and bulk modulus, and the remarks of salinity, temperature and pressure, each by its number: 1 below, 2 on, 3 above.
 -- Noughts if refused: 0 is no remark

@@ -1,34 +1,39 @@
-// What the C ABI's numbers stand for: a report from its kind and floats, and an answer as a row of words.
+// What the C ABI's numbers stand for: a reading from its kind, number and floats, and an answer as a row of words.
 ghost use mathlib.Core.Path.{_≡_};
 ghost use lib.Seq.{sets};
 ghost use Rattle.streams.specs.declared.Found.the-variants.{Nothing};
-ghost use Rattle.abi.specs.Abi.{entryOf, pairWords, foundWords};
+ghost use Rattle.abi.specs.Abi.{unreadOf, entryOf, pairWords, foundWords};
 use channels::Comparison;
+use kinds::Kind;
 use readings::Entry;
-use readings::Report;
 use refusals::Unread;
 
-// What a kind and its floats stand for. No record has 65,536 plus 6 or 8 for a kind: they stand for one that was refused by 6 or 8.
+// Why there is no reading, by a kind that the table does not have. No record has 65,536 plus 6 or 8 for a kind: they stand for one that was refused by 6 or 8.
 // Any other kind is refused by 7, as a record's is.
-pub fn entry_of(kind: u32, salinity: f32, temperature: f32, pressure: f32) -> Entry
-    ensures { λ r. ⌜ r ≡ entryOf kind salinity temperature pressure ⌝ }
+fn unread(kind: u32) -> Unread
+    ensures { λ r. ⌜ r ≡ unreadOf kind ⌝ }
 {
-    if kind == 1 {
-        return Entry::Reading(Report::Deep(salinity, temperature, pressure));
+    match kind {
+        65542 => Unread::Cut,
+        65544 => Unread::Length,
+        _ => Unread::Kind,
     }
-    if kind == 2 {
-        return Entry::Reading(Report::Surface(salinity, temperature));
+}
+
+// What a kind, a probe's number and three floats stand for. The number is taken with either of a report's two kinds.
+pub fn entry_of(kind: u32, probe: u16, salinity: f32, temperature: f32, pressure: f32) -> Entry
+    ensures { λ r. ⌜ r ≡ entryOf kind probe salinity temperature pressure ⌝ }
+{
+    match kinds::kind_of(kind as usize) {
+        Kind::Known(row) => {
+            let holds = row.holds;
+            Entry::Reading {
+                probe,
+                report: holds.report(salinity, temperature, pressure),
+            }
+        }
+        Kind::Unknown => Entry::Refused(unread(kind)),
     }
-    if kind == 3 {
-        return Entry::Reading(Report::Missing);
-    }
-    if kind == 65542 {
-        return Entry::Refused(Unread::Cut);
-    }
-    if kind == 65544 {
-        return Entry::Refused(Unread::Length);
-    }
-    Entry::Refused(Unread::Kind)
 }
 
 // Refusal, density and bulk modulus of both sides, refusal and value of the needle.

@@ -60,9 +60,9 @@ pub record Valued (r : Reading) (z : ℤ) : Type 0 where
   pub temperature-low : minus (gridNo 1000 (r .temperature)) ≡ 0
   pub temperature-high : plus (gridNo 1000 (r .temperature)) ≤ 40_000
 
-pub known-is : (report : Report) (r : Reading) (z : ℤ) → givenOf report ≡ some r → Known z ≡ solubilityOf (Entry.Reading report) → Valued r z
+pub known-is : (n : ℕ) (report : Report) (r : Reading) (z : ℤ) → givenOf report ≡ some r → Known z ≡ solubilityOf (Entry.Reading n report) → Valued r z
 unfolding solubilityOf
-known-is report r z g is = go (checkedFor Purpose.Carbon (unpressed report)) refl is
+known-is n report r z g is = go (checkedFor Purpose.Carbon (unpressed report)) refl is
   where
     go : (c : Checked) → checkedFor Purpose.Carbon (unpressed report) ≡ c → Known z ≡ dissolved c → Valued r z
     go (Checked.Refused x) e is = absurd (never is)
@@ -85,9 +85,9 @@ known-is report r z g is = go (checkedFor Purpose.Carbon (unpressed report)) ref
         }
 
 -- ---- a refusal has a listed reason of the report without its pressure, and each reason refuses
-pub refused-only : (report : Report) (x : Refusal) → Refused x ≡ solubilityOf (Entry.Reading report) → Reason Purpose.Carbon (unpressed report) x
+pub refused-only : (n : ℕ) (report : Report) (x : Refusal) → Refused x ≡ solubilityOf (Entry.Reading n report) → Reason Purpose.Carbon (unpressed report) x
 unfolding solubilityOf
-refused-only report x is = go (checkedFor Purpose.Carbon (unpressed report)) refl is
+refused-only n report x is = go (checkedFor Purpose.Carbon (unpressed report)) refl is
   where
     go : (c : Checked) → checkedFor Purpose.Carbon (unpressed report) ≡ c → Refused x ≡ dissolved c → Reason Purpose.Carbon (unpressed report) x
     go (Checked.Taken p o) e is = absurd (never is)
@@ -96,9 +96,9 @@ refused-only report x is = go (checkedFor Purpose.Carbon (unpressed report)) ref
         never e = let w : _≡_ {A = ℕ} 0 1 = cc in omega arith
     go (Checked.Refused y) e is = let same : y ≡ x = cc in reading.refused-only Purpose.Carbon (unpressed report) x (e ∙ ap Checked.Refused same)
 
-pub reason-refuses : (report : Report) {x : Refusal} → Reason Purpose.Carbon (unpressed report) x → solubilityOf (Entry.Reading report) ≡ Refused x
+pub reason-refuses : (n : ℕ) (report : Report) {x : Refusal} → Reason Purpose.Carbon (unpressed report) x → solubilityOf (Entry.Reading n report) ≡ Refused x
 unfolding solubilityOf
-reason-refuses report w = ap dissolved (reading.reason-refuses Purpose.Carbon w)
+reason-refuses n report w = ap dissolved (reading.reason-refuses Purpose.Carbon w)
 
 -- the reason is one of the first four: 1, 2, 3 or 4
 shallow-inside : (report : Report) (r : Reading) → givenOf (unpressed report) ≡ some r → inside pressures (r .pressure) ≡ true
@@ -117,18 +117,23 @@ one-of-four h (pressure r w s t p) = absurd (true-false (sym (h r (w .given)) �
     true-false : true ≡ false → ⊥
     true-false e = let z : _≡_ {A = ℕ} 0 1 = cc in omega arith
 
-pub refused-listed : (report : Report) (x : Refusal) → Refused x ≡ solubilityOf (Entry.Reading report) → numberOf x ≤ 4
-refused-listed report x is = one-of-four (shallow-inside report) (refused-only report x is)
+pub refused-listed : (n : ℕ) (report : Report) (x : Refusal) → Refused x ≡ solubilityOf (Entry.Reading n report) → numberOf x ≤ 4
+refused-listed n report x is = one-of-four (shallow-inside report) (refused-only n report x is)
 
 -- ---- the pressure
 -- it makes no difference, whatever float it is
-pub pressure-unread : (s t p q : Float) → solubilityOf (Entry.Reading (Report.Deep s t p)) ≡ solubilityOf (Entry.Reading (Report.Deep s t q))
+pub pressure-unread : (n : ℕ) (s t p q : Float) → solubilityOf (Entry.Reading n (Report.Deep s t p)) ≡ solubilityOf (Entry.Reading n (Report.Deep s t q))
 unfolding solubilityOf
-pressure-unread s t p q = refl
+pressure-unread n s t p q = refl
 
-pub as-at-surface : (s t p : Float) → solubilityOf (Entry.Reading (Report.Deep s t p)) ≡ solubilityOf (Entry.Reading (Report.Surface s t))
+pub as-at-surface : (n : ℕ) (s t p : Float) → solubilityOf (Entry.Reading n (Report.Deep s t p)) ≡ solubilityOf (Entry.Reading n (Report.Surface s t))
 unfolding solubilityOf
-as-at-surface s t p = refl
+as-at-surface n s t p = refl
+
+-- nor does the probe's number
+pub number-unread : (n n′ : ℕ) (report : Report) → solubilityOf (Entry.Reading n report) ≡ solubilityOf (Entry.Reading n′ report)
+unfolding solubilityOf
+number-unread n n′ report = refl
 
 -- ---- an answer is short: a value of nine digits at most, or a refusal of one
 abbrev pub Brief : Solubility → Type 0
@@ -143,7 +148,7 @@ unread-brief Unread.Length = lit< tt
 pub solubility-small : (e : Entry) → Brief (solubilityOf e)
 unfolding solubilityOf
 solubility-small (Entry.Refused u) = unread-brief u
-solubility-small (Entry.Reading report) = go (checkedFor Purpose.Carbon (unpressed report)) refl
+solubility-small (Entry.Reading probe report) = go (checkedFor Purpose.Carbon (unpressed report)) refl
   where
     go : (c : Checked) → checkedFor Purpose.Carbon (unpressed report) ≡ c → Brief (dissolved c)
     go (Checked.Taken p o) e =

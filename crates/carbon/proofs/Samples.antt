@@ -22,10 +22,10 @@ pub record Sample : Type 0 where
 
 -- salinity, temperature and pressure as bit patterns
 abbrev deep : ℕ → ℕ → ℕ → Solubility → Sample
-deep s t p a = record { entry = Entry.Reading (Report.Deep (ofBits binary32 s) (ofBits binary32 t) (ofBits binary32 p)); answer = a }
+deep s t p a = record { entry = Entry.Reading 0 (Report.Deep (ofBits binary32 s) (ofBits binary32 t) (ofBits binary32 p)); answer = a }
 
 abbrev surface : ℕ → ℕ → Solubility → Sample
-surface s t a = record { entry = Entry.Reading (Report.Surface (ofBits binary32 s) (ofBits binary32 t)); answer = a }
+surface s t a = record { entry = Entry.Reading 0 (Report.Surface (ofBits binary32 s) (ofBits binary32 t)); answer = a }
 
 abbrev unread : Unread → Solubility → Sample
 unread u a = record { entry = Entry.Refused u; answer = a }
@@ -55,7 +55,7 @@ samples =
     ∷ deep 0x422c_0000 0x7fc0_0000 0x7fc0_0000 (Refused Refusal.NotFinite)
     ∷ deep 0x7f80_0000 0xbf80_0000 0x0000_0000 (Refused Refusal.NotFinite)
     -- a missing one, and records that gave none
-    ∷ record { entry = Entry.Reading Report.Missing; answer = Refused Refusal.Missing }
+    ∷ record { entry = Entry.Reading 0 Report.Missing; answer = Refused Refusal.Missing }
     ∷ unread Unread.Cut (Refused Refusal.Cut)
     ∷ unread Unread.Kind (Refused Refusal.Kind)
     ∷ unread Unread.Length (Refused Refusal.Length)
@@ -66,17 +66,17 @@ unfolding samples solubilityOf checkedFor placedFor placeOf inside gridNo ofBits
 samples-hold = refl
 
 -- SPEC's two waters
-pub fresh-holds : solubilityOf (Entry.Reading (Report.Surface (ofBits binary32 0x0000_0000) (ofBits binary32 0x40a0_0000))) ≡ Known (neg 2_747_789)
+pub fresh-holds : solubilityOf (Entry.Reading 0 (Report.Surface (ofBits binary32 0x0000_0000) (ofBits binary32 0x40a0_0000))) ≡ Known (neg 2_747_789)
 unfolding solubilityOf checkedFor placedFor placeOf inside gridNo ofBits terms odd ln3 lnT byCold byLog salts scaled rowValue bySalt fine lnK0
 fresh-holds = refl
 
-pub salt-holds : solubilityOf (Entry.Reading (Report.Surface (ofBits binary32 0x420c_0000) (ofBits binary32 0x40a0_0000))) ≡ Known (neg 2_953_995)
+pub salt-holds : solubilityOf (Entry.Reading 0 (Report.Surface (ofBits binary32 0x420c_0000) (ofBits binary32 0x40a0_0000))) ≡ Known (neg 2_953_995)
 unfolding solubilityOf checkedFor placedFor placeOf inside gridNo ofBits terms odd ln3 lnT byCold byLog salts scaled rowValue bySalt fine lnK0
 salt-holds = refl
 
-pub nothing-holds : solubilityOf (Entry.Reading Report.Missing) ≡ Refused Refusal.Missing
+pub nothing-holds : (n : ℕ) → solubilityOf (Entry.Reading n Report.Missing) ≡ Refused Refusal.Missing
 unfolding solubilityOf checkedFor
-nothing-holds = refl
+nothing-holds n = refl
 
 -- the number and the value of an answer
 pub solubility-numbers : (solubilityNumber (Known (neg 62)) ≡ 0) × ((solubilityValue (Known (neg 62)) ≡ neg 62) × ((solubilityNumber (Refused Refusal.Temperature) ≡ 4) × (solubilityValue (Refused Refusal.Temperature) ≡ pos 0)))

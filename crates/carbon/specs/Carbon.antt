@@ -26,7 +26,7 @@ dissolved (Checked.Refused r) = Refused r
 
 -- a record's 6, 7 and 8 come before
 unfoldable pub solubilityOf : Entry → Solubility
-solubilityOf (Entry.Reading report) = dissolved (checkedFor Purpose.Carbon (unpressed report))
+solubilityOf (Entry.Reading n report) = dissolved (checkedFor Purpose.Carbon (unpressed report))
 solubilityOf (Entry.Refused u) = Refused (refusalOf u)
 
 -- the number of an answer, 0 for none, and its value, 0 if refused

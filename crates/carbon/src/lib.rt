@@ -117,7 +117,7 @@ pub fn answer(entry: Entry) -> Solubility
     ensures { λ r. ⌜ r ≡ solubilityOf entry ⌝ }
 {
     match entry {
-        Entry::Reading(report) => {
+        Entry::Reading { probe: _, report } => {
             let shallow = unpressed(report);
             let Report::Surface(salinity, temperature) = shallow else {
                 return Solubility::Refused(Refusal::Missing);

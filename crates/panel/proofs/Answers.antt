@@ -30,9 +30,9 @@ use Rattle.panel.specs.Panel.{filled, wateredOf, checkedChannel, channel
 
 -- a channel's three cases
 pub data Case : Entry → Channel → Type 0 where
-  accepted : (report : Report) (p : Point) (d k : ℕ) (m : Remarks) → checkedOf report ≡ Checked.Taken p m → waterOf (p .sigma) (p .tau) (p .pi) ≡ Water.Known d k
-      → Case (Entry.Reading report) (Channel.Accepted p d k m)
-  refused : (report : Report) (r : Refusal) → checkedOf report ≡ Checked.Refused r → Case (Entry.Reading report) (Channel.Refused r)
+  accepted : (n : ℕ) (report : Report) (p : Point) (d k : ℕ) (m : Remarks) → checkedOf report ≡ Checked.Taken p m → waterOf (p .sigma) (p .tau) (p .pi) ≡ Water.Known d k
+      → Case (Entry.Reading n report) (Channel.Accepted p d k m)
+  refused : (n : ℕ) (report : Report) (r : Refusal) → checkedOf report ≡ Checked.Refused r → Case (Entry.Reading n report) (Channel.Refused r)
   no-record : (u : Unread) → Case (Entry.Refused u) (Channel.Refused (refusalOf u))
 
 unknown : {d k : ℕ} {r : Refusal} → Water.Known d k ≡ Water.Refused r → ⊥
@@ -46,53 +46,58 @@ on-table p g =
       pressure = record { low = g .pi-low; high = g .pi-high };
     }
 
-by-water : (report : Report) (p : Point) (m : Remarks) → checkedOf report ≡ Checked.Taken p m → (w : Water) → waterOf (p .sigma) (p .tau) (p .pi) ≡ w
-    → Case (Entry.Reading report) (filled p m w)
-by-water report p m c (Water.Known d k) e = accepted report p d k m c e
-by-water report p m c (Water.Refused r) e =
+by-water : (n : ℕ) (report : Report) (p : Point) (m : Remarks) → checkedOf report ≡ Checked.Taken p m → (w : Water) → waterOf (p .sigma) (p .tau) (p .pi) ≡ w
+    → Case (Entry.Reading n report) (filled p m w)
+by-water n report p m c (Water.Known d k) e = accepted n report p d k m c e
+by-water n report p m c (Water.Refused r) e =
     absurd (unknown (sym (known-on-table (p .sigma) (p .tau) (p .pi) (on-table p (reading.taken-on-grid Purpose.Density report p m c))) ∙ e))
 
-by-check : (report : Report) (c : Checked) → checkedOf report ≡ c → Case (Entry.Reading report) (checkedChannel c)
+by-check : (n : ℕ) (report : Report) (c : Checked) → checkedOf report ≡ c → Case (Entry.Reading n report) (checkedChannel c)
 unfolding wateredOf
-by-check report (Checked.Taken p m) e = by-water report p m e (waterOf (p .sigma) (p .tau) (p .pi)) refl
-by-check report (Checked.Refused r) e = refused report r e
+by-check n report (Checked.Taken p m) e = by-water n report p m e (waterOf (p .sigma) (p .tau) (p .pi)) refl
+by-check n report (Checked.Refused r) e = refused n report r e
 
 pub case-of : (e : Entry) → Case e (channelOf e)
 unfolding channelOf
-case-of (Entry.Reading report) = by-check report (checkedOf report) refl
+case-of (Entry.Reading n report) = by-check n report (checkedOf report) refl
 case-of (Entry.Refused u) = no-record u
 
 -- ---- an accepted reading's point has the grid numbers of its floats, its remarks are theirs, and its salinity was inside the range
-accepted-taken : (report : Report) (p : Point) (d k : ℕ) (m : Remarks) → channelOf (Entry.Reading report) ≡ Channel.Accepted p d k m → checkedOf report ≡ Checked.Taken p m
-accepted-taken report p d k m e = go (subst (Case (Entry.Reading report)) e (case-of (Entry.Reading report)))
+accepted-taken : (n : ℕ) (report : Report) (p : Point) (d k : ℕ) (m : Remarks) → channelOf (Entry.Reading n report) ≡ Channel.Accepted p d k m → checkedOf report ≡ Checked.Taken p m
+accepted-taken n report p d k m e = go (subst (Case (Entry.Reading n report)) e (case-of (Entry.Reading n report)))
   where
-    go : Case (Entry.Reading report) (Channel.Accepted p d k m) → checkedOf report ≡ Checked.Taken p m
-    go (accepted _ _ _ _ _ c w) = c
+    go : Case (Entry.Reading n report) (Channel.Accepted p d k m) → checkedOf report ≡ Checked.Taken p m
+    go (accepted _ _ _ _ _ _ c w) = c
 
 module _
-    (report : Report) (r : Reading) (p : Point) (d k : ℕ) (m : Remarks)
-    (g : givenOf report ≡ some r) (e : channelOf (Entry.Reading report) ≡ Channel.Accepted p d k m) where
+    (n : ℕ) (report : Report) (r : Reading) (p : Point) (d k : ℕ) (m : Remarks)
+    (g : givenOf report ≡ some r) (e : channelOf (Entry.Reading n report) ≡ Channel.Accepted p d k m) where
   pub accepted-gridded : Gridded r p
-  accepted-gridded = reading.taken-gridded Purpose.Density report r p m g (accepted-taken report p d k m e)
+  accepted-gridded = reading.taken-gridded Purpose.Density report r p m g (accepted-taken n report p d k m e)
 
   pub accepted-remarked : Remarked r m
-  accepted-remarked = reading.taken-remarked Purpose.Density report r p m g (accepted-taken report p d k m e)
+  accepted-remarked = reading.taken-remarked Purpose.Density report r p m g (accepted-taken n report p d k m e)
 
   pub accepted-inside : T (inside salinities (r .salinity))
-  accepted-inside = reading.taken-inside Purpose.Density report r p m g (accepted-taken report p d k m e)
+  accepted-inside = reading.taken-inside Purpose.Density report r p m g (accepted-taken n report p d k m e)
 
 -- a probe at the surface: its pressure is on
-pub surface-on : (s t : Float) (p : Point) (d k : ℕ) (m : Remarks) → channelOf (Entry.Reading (Report.Surface s t)) ≡ Channel.Accepted p d k m → m .pressure ≡ On
-surface-on s t p d k m e = reading.surface-on Purpose.Density s t p m (accepted-taken (Report.Surface s t) p d k m e)
+pub surface-on : (n : ℕ) (s t : Float) (p : Point) (d k : ℕ) (m : Remarks) → channelOf (Entry.Reading n (Report.Surface s t)) ≡ Channel.Accepted p d k m → m .pressure ≡ On
+surface-on n s t p d k m e = reading.surface-on Purpose.Density s t p m (accepted-taken n (Report.Surface s t) p d k m e)
 
 -- ---- a reading is refused only for a listed reason
-pub refused-only : (report : Report) (r : Refusal) → channelOf (Entry.Reading report) ≡ Channel.Refused r → Reason Purpose.Density report r
-refused-only report r e = go (subst (Case (Entry.Reading report)) e (case-of (Entry.Reading report)))
+pub refused-only : (n : ℕ) (report : Report) (r : Refusal) → channelOf (Entry.Reading n report) ≡ Channel.Refused r → Reason Purpose.Density report r
+refused-only n report r e = go (subst (Case (Entry.Reading n report)) e (case-of (Entry.Reading n report)))
   where
-    go : Case (Entry.Reading report) (Channel.Refused r) → Reason Purpose.Density report r
-    go (refused _ _ c) = reading.refused-only Purpose.Density report r c
+    go : Case (Entry.Reading n report) (Channel.Refused r) → Reason Purpose.Density report r
+    go (refused _ _ _ c) = reading.refused-only Purpose.Density report r c
 
 -- and a reason is enough
-pub reason-refuses : {report : Report} {r : Refusal} → Reason Purpose.Density report r → channelOf (Entry.Reading report) ≡ Channel.Refused r
+pub reason-refuses : (n : ℕ) {report : Report} {r : Refusal} → Reason Purpose.Density report r → channelOf (Entry.Reading n report) ≡ Channel.Refused r
 unfolding channelOf
-reason-refuses w = ap checkedChannel (reading.reason-refuses Purpose.Density w)
+reason-refuses n w = ap checkedChannel (reading.reason-refuses Purpose.Density w)
+
+-- ---- the probe's number makes no difference
+pub number-unread : (n n′ : ℕ) (report : Report) → channelOf (Entry.Reading n report) ≡ channelOf (Entry.Reading n′ report)
+unfolding channelOf
+number-unread n n′ report = refl

@@ -7,11 +7,15 @@ use Rattle.whole.specs.Arith.{neg, scaled, rowValue, rootFrom, rootOf}
 use Rattle.sea.specs.Table.{Dw, Ds, Dr, Dss, Kw, Ks, Kr, Aw, As, Ar, Bw, Bs}
 use Rattle.sea.specs.Recipe.{rowsAt, rootAt, surface, K0, A, B, bulk, mass, net, gain, density, shown, bulkOf, shownOf, shownAt}
 use Rattle.refusals.specs.declared.Refusal.{Refusal}
+use Rattle.refusals.specs.declared.Unread.{Unread}
+use Rattle.readings.specs.declared.Report.{Report}
+use Rattle.readings.specs.declared.Entry.{Entry}
 use Rattle.readings.specs.declared.Point.{Point}
 use Rattle.readings.specs.declared.Remarks.{Remarks}
 use Rattle.channels.specs.declared.Channel.{Channel}
 use Rattle.channels.specs.declared.Needle.{Needle}
-use Rattle.panel.specs.Panel.{needleOf}
+use Rattle.panel.specs.declared.Shared.{Shared}
+use Rattle.panel.specs.Panel.{sharedOf, needleOf}
 
 -- at a pressure in 0.01 bar: salt water of 5 °C, fresh water of 25 °C
 abbrev salt : ℕ → Point
@@ -24,12 +28,12 @@ warm π = record { sigma = pos 0; tau = pos 25_000; pi = pos π }
 -- surface; and the other way round
 pub needles :
     (d k c j : ℕ) (m n : Remarks) →
-    (needleOf (Channel.Accepted (salt 100_000) d k m) (Channel.Accepted (warm 0) c j n) ≡ Needle.Value (neg 31_587))
-    × ((needleOf (Channel.Accepted (salt 0) d k m) (Channel.Accepted (warm 100_000) c j n) ≡ Needle.Value (neg 31_587))
-    × ((needleOf (Channel.Accepted (salt 0) d k m) (Channel.Accepted (warm 0) c j n) ≡ Needle.Value (neg 30_627))
-    × ((needleOf (Channel.Accepted (warm 0) d k m) (Channel.Accepted (salt 100_000) c j n) ≡ Needle.Value (pos 31_587))
-    × ((needleOf (Channel.Accepted (warm 100_000) d k m) (Channel.Accepted (salt 0) c j n) ≡ Needle.Value (pos 31_587))
-    × (needleOf (Channel.Accepted (salt 0) d k m) (Channel.Accepted (salt 100_000) c j n) ≡ Needle.Value (pos 0))))))
+    (needleOf (Channel.Accepted (salt 100_000) d k m) (Channel.Accepted (warm 0) c j n) Shared.No ≡ Needle.Value (neg 31_587))
+    × ((needleOf (Channel.Accepted (salt 0) d k m) (Channel.Accepted (warm 100_000) c j n) Shared.No ≡ Needle.Value (neg 31_587))
+    × ((needleOf (Channel.Accepted (salt 0) d k m) (Channel.Accepted (warm 0) c j n) Shared.No ≡ Needle.Value (neg 30_627))
+    × ((needleOf (Channel.Accepted (warm 0) d k m) (Channel.Accepted (salt 100_000) c j n) Shared.No ≡ Needle.Value (pos 31_587))
+    × ((needleOf (Channel.Accepted (warm 100_000) d k m) (Channel.Accepted (salt 0) c j n) Shared.No ≡ Needle.Value (pos 31_587))
+    × (needleOf (Channel.Accepted (salt 0) d k m) (Channel.Accepted (salt 100_000) c j n) Shared.No ≡ Needle.Value (pos 0))))))
 unfolding scaled rowValue rootFrom rootOf Dw Ds Dr Dss Kw Ks Kr Aw As Ar Bw Bs rowsAt rootAt surface K0 A B bulk mass net gain density shown bulkOf shownOf shownAt
 needles d k c j m n = (refl, (refl, (refl, (refl, (refl, refl)))))
 
@@ -38,7 +42,24 @@ no = Channel.Refused Refusal.Temperature
 
 -- refused on the left, on the right, on both
 pub no-needles :
-    (p : Point) (d k : ℕ) (m : Remarks) →
-    (needleOf no (Channel.Accepted p d k m) ≡ Needle.Refused 104) × ((needleOf (Channel.Accepted p d k m) no ≡ Needle.Refused 204)
-    × (needleOf (Channel.Refused Refusal.Missing) no ≡ Needle.Refused 101))
-no-needles p d k m = (refl, (refl, refl))
+    (p : Point) (d k : ℕ) (m : Remarks) (s : Shared) →
+    (needleOf no (Channel.Accepted p d k m) s ≡ Needle.Refused 104) × ((needleOf (Channel.Accepted p d k m) no s ≡ Needle.Refused 204)
+    × (needleOf (Channel.Refused Refusal.Missing) no s ≡ Needle.Refused 101))
+no-needles p d k m s = (refl, (refl, refl))
+
+-- both accepted, of one probe
+pub same-probe :
+    (p q : Point) (d k c j : ℕ) (m n : Remarks) → needleOf (Channel.Accepted p d k m) (Channel.Accepted q c j n) Shared.Yes ≡ Needle.Refused 32
+same-probe p q d k c j m n = refl
+
+-- numbers: the same, other than 0. One that has the bytes of another, turned round, is another; 0 is nobody's, on both sides too; and a record that gave no
+-- reading has none
+pub numbers :
+    (a b : Report) (u : Unread) →
+    (sharedOf (Entry.Reading 17 a) (Entry.Reading 17 b) ≡ Shared.Yes) × ((sharedOf (Entry.Reading 65_535 a) (Entry.Reading 65_535 b) ≡ Shared.Yes)
+    × ((sharedOf (Entry.Reading 17 a) (Entry.Reading 18 b) ≡ Shared.No) × ((sharedOf (Entry.Reading 1 a) (Entry.Reading 256 b) ≡ Shared.No)
+    × ((sharedOf (Entry.Reading 255 a) (Entry.Reading 65_535 b) ≡ Shared.No) × ((sharedOf (Entry.Reading 0 a) (Entry.Reading 0 b) ≡ Shared.No)
+    × ((sharedOf (Entry.Reading 0 a) (Entry.Reading 17 b) ≡ Shared.No) × ((sharedOf (Entry.Reading 17 a) (Entry.Reading 0 b) ≡ Shared.No)
+    × ((sharedOf (Entry.Refused u) (Entry.Refused u) ≡ Shared.No) × ((sharedOf (Entry.Reading 17 a) (Entry.Refused u) ≡ Shared.No)
+    × (sharedOf (Entry.Refused u) (Entry.Reading 17 b) ≡ Shared.No))))))))))
+numbers a b u = (refl, (refl, (refl, (refl, (refl, (refl, (refl, (refl, (refl, (refl, refl))))))))))

@@ -1,5 +1,5 @@
--- The needle: swapping two accepted channels turns its sign and keeps its size, it has a value exactly if both are accepted, it is 0 for one water
--- at two depths and the difference of what is shown at one depth, and each channel depends on its own reading only. Assumes nothing.
+-- The needle's value: swapping the two turns its sign and keeps its size, only two accepted channels have one, it is 0 for one water at two depths and the
+-- difference of what is shown at one depth; and each channel depends on its own reading only. When there is none: proofs/Probes. Assumes nothing.
 use Prim.Native.Nat.{ℕ, _≤_}
 use mathlib.Core.Path.{_≡_, refl, sym, ap}
 use native.Mathlib.Omega.{arith}
@@ -11,6 +11,7 @@ use Rattle.readings.specs.declared.Remarks.{Remarks}
 use Rattle.readings.specs.declared.Entry.{Entry}
 use Rattle.channels.specs.declared.Channel.{Channel}
 use Rattle.channels.specs.declared.Needle.{Needle}
+use Rattle.panel.specs.declared.Shared.{Shared}
 use Rattle.panel.specs.Panel.{channelOf, common, shownUnder, needleOf, comparisonOf}
 use Rattle.panel.proofs.Sizes.{accepted-shows}
 
@@ -37,17 +38,18 @@ never : {z : ℤ} {n : ℕ} → Needle.Refused n ≡ Needle.Value z → ⊥
 never e = let x : _≡_ {A = ℕ} 0 1 = cc in omega arith
 
 -- swapped: the sign turns. The pressure that both are put under is the same, whichever stands left
-pub swapped : (l r : Channel) (z : ℤ) → needleOf l r ≡ Needle.Value z → needleOf r l ≡ Needle.Value (negℤ z)
-swapped (Channel.Accepted p d k m) (Channel.Accepted q c j n) z e =
+pub swapped : (l r : Channel) (s : Shared) (z : ℤ) → needleOf l r s ≡ Needle.Value z → needleOf r l s ≡ Needle.Value (negℤ z)
+swapped (Channel.Accepted p d k m) (Channel.Accepted q c j n) Shared.Yes z e = absurd (never e)
+swapped (Channel.Accepted p d k m) (Channel.Accepted q c j n) Shared.No z e =
     ap Needle.Value (rw (← taken e, common-either p q) (turned (shownUnder (common p q) p) (shownUnder (common p q) q)))
-swapped (Channel.Accepted p d k m) (Channel.Refused s) z e = absurd (never e)
-swapped (Channel.Refused s) r z e = absurd (never e)
+swapped (Channel.Accepted p d k m) (Channel.Refused x) s z e = absurd (never e)
+swapped (Channel.Refused x) r s z e = absurd (never e)
 
 -- and the size stays
 pub swapped-size : (z : ℤ) → natAbs (negℤ z) ≡ natAbs z
 swapped-size z = omega (arith, size-is z, size-is (negℤ z), neg-plus z, neg-minus z)
 
--- the needle has a value exactly if both channels are accepted
+-- a needle has a value only if both channels are accepted
 pub record Both (l r : Channel) : Type 0 where
   pub left-at : Point
   pub left-density : ℕ
@@ -60,8 +62,15 @@ pub record Both (l r : Channel) : Type 0 where
   pub right-remarks : Remarks
   pub right-is : r ≡ Channel.Accepted right-at right-density right-bulk right-remarks
 
-pub value-accepted : (l r : Channel) (z : ℤ) → needleOf l r ≡ Needle.Value z → Both l r
-value-accepted (Channel.Accepted p d k m) (Channel.Accepted q c j n) z e =
+-- and only if no probe stands on both sides
+pub value-apart : (l r : Channel) (s : Shared) (z : ℤ) → needleOf l r s ≡ Needle.Value z → s ≡ Shared.No
+value-apart (Channel.Accepted p d k m) (Channel.Accepted q c j n) Shared.Yes z e = absurd (never e)
+value-apart (Channel.Accepted p d k m) (Channel.Accepted q c j n) Shared.No z e = refl
+value-apart (Channel.Accepted p d k m) (Channel.Refused x) s z e = absurd (never e)
+value-apart (Channel.Refused x) r s z e = absurd (never e)
+
+pub value-accepted : (l r : Channel) (s : Shared) (z : ℤ) → needleOf l r s ≡ Needle.Value z → Both l r
+value-accepted (Channel.Accepted p d k m) (Channel.Accepted q c j n) s z e =
     record {
       left-at = p;
       left-density = d;
@@ -74,8 +83,18 @@ value-accepted (Channel.Accepted p d k m) (Channel.Accepted q c j n) z e =
       right-remarks = n;
       right-is = refl;
     }
-value-accepted (Channel.Accepted p d k m) (Channel.Refused s) z e = absurd (never e)
-value-accepted (Channel.Refused s) r z e = absurd (never e)
+value-accepted (Channel.Accepted p d k m) (Channel.Refused x) s z e = absurd (never e)
+value-accepted (Channel.Refused x) r s z e = absurd (never e)
+
+-- and then it is the difference of the shown densities under the pressure in common
+pub value-is :
+    {l r : Channel} {p q : Point} {d k c j : ℕ} {m n : Remarks} (s : Shared) (z : ℤ) → l ≡ Channel.Accepted p d k m → r ≡ Channel.Accepted q c j n →
+    needleOf l r s ≡ Needle.Value z → z ≡ pos (shownUnder (common p q) q) -ℤ pos (shownUnder (common p q) p)
+value-is {l} {r} {p} {q} {d} {k} {c} {j} {m} {n} s z e f h = go s (rw (e, f) at h)
+  where
+    go : (s : Shared) → needleOf (Channel.Accepted p d k m) (Channel.Accepted q c j n) s ≡ Needle.Value z → z ≡ pos (shownUnder (common p q) q) -ℤ pos (shownUnder (common p q) p)
+    go Shared.Yes h = absurd (never h)
+    go Shared.No h = sym (taken h)
 
 -- ---- what the hatchery asks
 -- the same water at any two depths: a needle of 0
@@ -84,13 +103,13 @@ nought n = same (pos n -ℤ pos n) (pos 0) (omega (arith, sub-is (pos n) (pos n)
 
 pub same-water :
     (l r : Channel) (p q : Point) (d k c j : ℕ) (m n : Remarks) → l ≡ Channel.Accepted p d k m → r ≡ Channel.Accepted q c j n →
-    p .sigma ≡ q .sigma → p .tau ≡ q .tau → needleOf l r ≡ Needle.Value (pos 0)
+    p .sigma ≡ q .sigma → p .tau ≡ q .tau → needleOf l r Shared.No ≡ Needle.Value (pos 0)
 same-water l r p q d k c j m n e f s t = rw (e, f, s, t) (ap Needle.Value (nought (shownUnder (common p q) q)))
 
 -- at equal pressures: the difference of the densities that the two channels show
 pub level :
     (l r : Entry) (p q : Point) (d k c j : ℕ) (m n : Remarks) → channelOf l ≡ Channel.Accepted p d k m → channelOf r ≡ Channel.Accepted q c j n →
-    p .pi ≡ q .pi → needleOf (channelOf l) (channelOf r) ≡ Needle.Value (pos c -ℤ pos d)
+    p .pi ≡ q .pi → needleOf (channelOf l) (channelOf r) Shared.No ≡ Needle.Value (pos c -ℤ pos d)
 level l r p q d k c j m n e f h =
     let a : shownUnder (common p q) p ≡ d = rw (common-level p q h) (sym (accepted-shows l p d k m e .density-is)) in
     let b : shownUnder (common p q) q ≡ c = rw (common-level p q h, h) (sym (accepted-shows r q c j n f .density-is)) in

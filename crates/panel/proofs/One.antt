@@ -5,6 +5,7 @@ use contract.Lifetimes
 use Rattle.panel.proofs.answer.Reads as answer
 use Rattle.panel.proofs.entered.Reads as entered
 use Rattle.panel.proofs.beside.Reads as beside
+use Rattle.panel.proofs.shares.Reads as shares
 use Rattle.panel.proofs.needle.Reads as needle
 use Rattle.panel.proofs.paired.Reads as paired
 
@@ -13,6 +14,9 @@ one-entered κs a r r′ s s′ e f = e ∙ sym f
 
 pub one-beside : (κs : Lifetimes.Lfts 0) (a : _) (r r′ : _) (s s′ : _) → beside.Learnt κs a r s → beside.Learnt κs a r′ s′ → r ≡ r′
 one-beside κs a r r′ s s′ e f = e ∙ sym f
+
+pub one-shares : (κs : Lifetimes.Lfts 0) (a : _) (r r′ : _) (s s′ : _) → shares.Learnt κs a r s → shares.Learnt κs a r′ s′ → r ≡ r′
+one-shares κs a r r′ s s′ e f = e ∙ sym f
 
 pub one-needle : (κs : Lifetimes.Lfts 0) (a : _) (r r′ : _) (s s′ : _) → needle.Learnt κs a r s → needle.Learnt κs a r′ s′ → r ≡ r′
 one-needle κs a r r′ s s′ e f = e ∙ sym f
@@ -29,6 +33,9 @@ free-entered κs a = tt
 
 pub free-beside : (κs : Lifetimes.Lfts 0) (a : _) → beside.Asked κs a
 free-beside κs a = tt
+
+pub free-shares : (κs : Lifetimes.Lfts 0) (a : _) → shares.Asked κs a
+free-shares κs a = tt
 
 pub free-needle : (κs : Lifetimes.Lfts 0) (a : _) → needle.Asked κs a
 free-needle κs a = tt

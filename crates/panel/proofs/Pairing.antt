@@ -23,7 +23,8 @@ use Rattle.readings.proofs.Answers.{taken-on-grid}
 use Rattle.channels.specs.declared.Channel.{Channel}
 use Rattle.channels.specs.declared.Needle.{Needle}
 use Rattle.panel.specs.declared.Side.{Side}
-use Rattle.panel.specs.Panel.{filled, wateredOf, entered, checkedChannel, channelOf, common, shownUnder, needleOf, comparisonOf}
+use Rattle.panel.specs.declared.Shared.{Shared}
+use Rattle.panel.specs.Panel.{filled, wateredOf, entered, checkedChannel, channelOf, common, shownUnder, sharedOf, needleOf, comparisonOf}
 use Rattle.panel.specs.Pairing.{pressureOf, commonOf, besideOf, needleBetween, comparedFrom}
 use Rattle.panel.proofs.Answers.{on-table}
 use Rattle.panel.proofs.Needles.{common-either}
@@ -38,7 +39,7 @@ by-check (Checked.Taken p m) t = at p m (t p m refl)
 by-check (Checked.Refused r) t = nowhere r
 
 placed : (e : Entry) → Placed (entered e)
-placed (Entry.Reading report) = by-check _ (λ p m e. on-table p (taken-on-grid Purpose.Density report p m e))
+placed (Entry.Reading n report) = by-check _ (λ p m e. on-table p (taken-on-grid Purpose.Density report p m e))
 placed (Entry.Refused u) = nowhere _
 
 -- a point on the table is accepted
@@ -82,10 +83,12 @@ beside-refused : (r : Refusal) (b : Checked) → besideOf (Checked.Refused r) b 
 unfolding besideOf
 beside-refused r b = refl
 
-needle-placed : {a b : Checked} → Placed a → Placed b → needleBetween (besideOf a b) (besideOf b a) ≡ needleOf (checkedChannel a) (checkedChannel b)
-needle-placed (nowhere r) g = rw (beside-refused r _) refl
-needle-placed (at p m t) (nowhere r) = rw (beside-taken p m t (nowhere r), beside-refused r (Checked.Taken p m), accepted-at p m t) refl
-needle-placed (at p m t) (at q n u) =
+needle-placed : {a b : Checked} → Placed a → Placed b → (s : Shared) → needleBetween (besideOf a b) (besideOf b a) s ≡ needleOf (checkedChannel a) (checkedChannel b) s
+needle-placed (nowhere r) g s = rw (beside-refused r _) refl
+needle-placed (at p m t) (nowhere r) s = rw (beside-taken p m t (nowhere r), beside-refused r (Checked.Taken p m), accepted-at p m t) refl
+needle-placed (at p m t) (at q n u) Shared.Yes =
+    rw (beside-taken p m t (at q n u), beside-taken q n u (at p m t), accepted-at p m t, accepted-at q n u) refl
+needle-placed (at p m t) (at q n u) Shared.No =
     rw (beside-taken p m t (at q n u), beside-taken q n u (at p m t), accepted-at p m t, accepted-at q n u) (
     ap (λ (n : ℕ). Needle.Value (pos (shownUnder n q) -ℤ pos (shownUnder (common p q) p))) (common-either p q)
     )
@@ -94,13 +97,16 @@ channel-placed : {a b : Checked} → Placed a → Placed b → (besideOf a b) .c
 channel-placed (at p m t) g = ap (λ (s : Side). s .channel) (beside-taken p m t g)
 channel-placed (nowhere r) g = ap (λ (s : Side). s .channel) (beside-refused r _)
 
-compared-beside : (l r : Entry) → comparedFrom (besideOf (entered l) (entered r)) (besideOf (entered r) (entered l)) ≡ comparisonOf l r
+compared-beside : (l r : Entry) → comparedFrom (besideOf (entered l) (entered r)) (besideOf (entered r) (entered l)) (sharedOf l r) ≡ comparisonOf l r
 unfolding comparisonOf channelOf
-compared-beside l r = rw (needle-placed (placed l) (placed r), channel-placed (placed l) (placed r), channel-placed (placed r) (placed l))
+compared-beside l r = rw (needle-placed (placed l) (placed r) (sharedOf l r), channel-placed (placed l) (placed r), channel-placed (placed r) (placed l))
 
--- ---- of what calls gave, as who makes a pair has it: a and b are what `entered` gave for l and r, x and y what `beside` gave for each beside the other
-pub compared : {a b : Checked} {x y : Side} (l r : Entry) → a ≡ entered l → b ≡ entered r → x ≡ besideOf a b → y ≡ besideOf b a → comparedFrom x y ≡ comparisonOf l r
-compared l r p q f g = ap₂ comparedFrom (f ∙ ap₂ besideOf p q) (g ∙ ap₂ besideOf q p) ∙ compared-beside l r
+-- ---- of what calls gave, as who makes a pair has it: a and b are what `entered` gave for l and r, x and y what `beside` gave for each beside the other,
+-- f what `shares` gave for both
+pub compared :
+    {a b : Checked} {x y : Side} {f : Shared} (l r : Entry) → a ≡ entered l → b ≡ entered r → x ≡ besideOf a b → y ≡ besideOf b a → f ≡ sharedOf l r →
+    comparedFrom x y f ≡ comparisonOf l r
+compared l r p q g h s = rw (g ∙ ap₂ besideOf p q, h ∙ ap₂ besideOf q p, s) (compared-beside l r)
 
 -- and of one alone
 pub alone : {c : Checked} {x : Side} (e : Entry) → c ≡ entered e → x ≡ besideOf c c → x .channel ≡ channelOf e

@@ -24,20 +24,21 @@ use Rattle.sea.proofs.Grid.{natural, lies-natural}
 use Rattle.readings.specs.declared.Entry.{Entry}
 use Rattle.channels.specs.declared.Channel.{Channel}
 use Rattle.channels.specs.declared.Needle.{Needle}
-use Rattle.panel.specs.Panel.{channelOf, common, shownUnder, needleOf}
+use Rattle.panel.specs.declared.Shared.{Shared}
+use Rattle.panel.specs.Panel.{channelOf, common, shownUnder, sharedOf, needleOf}
 use Rattle.panel.proofs.Answers.{Case, accepted, refused, no-record, case-of}
 
 pub accepted-shows : (e : Entry) (p : Point) (d k : ℕ) (m : Remarks) → channelOf e ≡ Channel.Accepted p d k m → Shown (p .sigma) (p .tau) (p .pi) d k
 accepted-shows e p d k m h = go e (subst (Case e) h (case-of e))
   where
     go : (e : Entry) → Case e (Channel.Accepted p d k m) → Shown (p .sigma) (p .tau) (p .pi) d k
-    go _ (accepted report _ _ _ _ c w) = known-shows (p .sigma) (p .tau) (p .pi) w
+    go _ (accepted i report _ _ _ _ c w) = known-shows (p .sigma) (p .tau) (p .pi) w
 
 pub accepted-table : (e : Entry) (p : Point) (d k : ℕ) (m : Remarks) → channelOf e ≡ Channel.Accepted p d k m → OnTable (p .sigma) (p .tau) (p .pi)
 accepted-table e p d k m h = go e (subst (Case e) h (case-of e))
   where
     go : (e : Entry) → Case e (Channel.Accepted p d k m) → OnTable (p .sigma) (p .tau) (p .pi)
-    go _ (accepted report _ _ _ _ c w) = known-is-on-table (p .sigma) (p .tau) (p .pi) w
+    go _ (accepted i report _ _ _ _ c w) = known-is-on-table (p .sigma) (p .tau) (p .pi) w
 
 -- a density of seven digits at most, or a refusal's number of one
 abbrev pub Small : Channel → Type 0
@@ -57,8 +58,8 @@ unread-small Unread.Kind = lit< tt
 unread-small Unread.Length = lit< tt
 
 by-case : {e : Entry} {c : Channel} → Case e c → Small c
-by-case (accepted report p d k m c w) = let s = known-shows (p .sigma) (p .tau) (p .pi) w in omega (arith, s .density-high)
-by-case (refused report r c) = reason-small (reading.refused-only Purpose.Density report r c)
+by-case (accepted i report p d k m c w) = let s = known-shows (p .sigma) (p .tau) (p .pi) w in omega (arith, s .density-high)
+by-case (refused i report r c) = reason-small (reading.refused-only Purpose.Density report r c)
 by-case (no-record u) = unread-small u
 
 pub shown-small : (e : Entry) → Small (channelOf e)
@@ -87,16 +88,17 @@ difference-small a b h g = go (pos b -ℤ pos a) (sub-is (pos b) (pos a))
     go (pos n) e = omega (arith, h .0, g .1)
     go (negsuc n) e = omega (arith, h .1, g .0)
 
-needle-case : {e f : Entry} {c d : Channel} → Case e c → Case f d → SmallNeedle (needleOf c d)
-needle-case (refused report r c) w = omega (arith, reason-small (reading.refused-only Purpose.Density report r c))
-needle-case (no-record u) w = omega (arith, unread-small u)
-needle-case (accepted report p d k m c w) (refused report′ r c′) = omega (arith, reason-small (reading.refused-only Purpose.Density report′ r c′))
-needle-case (accepted report p d k m c w) (no-record u) = omega (arith, unread-small u)
-needle-case (accepted report p d k m c w) (accepted report′ q d′ k′ m′ c′ w′) =
+needle-case : {e f : Entry} {c d : Channel} → Case e c → Case f d → (s : Shared) → SmallNeedle (needleOf c d s)
+needle-case (refused i report r c) w s = omega (arith, reason-small (reading.refused-only Purpose.Density report r c))
+needle-case (no-record u) w s = omega (arith, unread-small u)
+needle-case (accepted i report p d k m c w) (refused i′ report′ r c′) s = omega (arith, reason-small (reading.refused-only Purpose.Density report′ r c′))
+needle-case (accepted i report p d k m c w) (no-record u) s = omega (arith, unread-small u)
+needle-case (accepted i report p d k m c w) (accepted i′ report′ q d′ k′ m′ c′ w′) Shared.Yes = lit< tt
+needle-case (accepted i report p d k m c w) (accepted i′ report′ q d′ k′ m′ c′ w′) Shared.No =
     let s = known-is-on-table (p .sigma) (p .tau) (p .pi) w in
     let t = known-is-on-table (q .sigma) (q .tau) (q .pi) w′ in
     let h : common p q ≤ 100_000 = omega (arith, natural (s .pressure) .most, natural (t .pressure) .most) in
     difference-small (shownUnder (common p q) p) (shownUnder (common p q) q) (under-shows p s (common p q) h) (under-shows q t (common p q) h)
 
-pub needle-small : (l r : Entry) → SmallNeedle (needleOf (channelOf l) (channelOf r))
-needle-small l r = needle-case (case-of l) (case-of r)
+pub needle-small : (l r : Entry) → SmallNeedle (needleOf (channelOf l) (channelOf r) (sharedOf l r))
+needle-small l r = needle-case (case-of l) (case-of r) (sharedOf l r)

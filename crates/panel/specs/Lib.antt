@@ -1,2 +1,3 @@
 pub mod Panel
 pub mod Pairing
+pub mod Probes

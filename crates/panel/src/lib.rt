@@ -1,6 +1,6 @@
-// A channel from what stands in it, and the needle from two of them.
+// A channel from what stands in it, and the needle from two of them and their probes' numbers.
 ghost use mathlib.Core.Path.{_≡_};
-ghost use Rattle.panel.specs.Panel.{entered, channelOf, comparisonOf};
+ghost use Rattle.panel.specs.Panel.{entered, channelOf, probeOf, sharedOf, comparisonOf};
 ghost use Rattle.panel.specs.Pairing.{pressureOf, commonOf, sideOf, besideOf, needleBetween};
 use channels::Channel;
 use channels::Comparison;
@@ -9,6 +9,7 @@ use readings::Checked;
 use readings::Entry;
 use readings::Point;
 use readings::Remarks;
+use refusals::Refusal;
 use sea::Sounding;
 
 // A channel's answer, and the density of its water under the pressure that it has in common with the other one: what the needle is made of.
@@ -17,18 +18,49 @@ pub struct Side {
     pub under: u32,
 }
 
+// Whether the two sides of a pair have the same probe's number, other than 0.
+pub enum Shared {
+    Yes,
+    No,
+}
+
 // What becomes of what stands in a channel: its grid numbers and remarks, or its refusal. A check's answer is told apart at once and not handed on as it is: a
 // missing probe's then needs no room in memory.
 pub fn entered(entry: Entry) -> Checked
     ensures { λ r. ⌜ r ≡ entered entry ⌝ }
 {
     match entry {
-        Entry::Reading(report) => match readings::check(report) {
+        Entry::Reading { probe: _, report } => match readings::check(report) {
             Checked::Taken(at, remarks) => Checked::Taken(at, remarks),
             Checked::Refused(why) => Checked::Refused(why),
         },
         Entry::Refused(why) => Checked::Refused(why.refusal()),
     }
+}
+
+// The number of a reading's probe; 0 where there is no reading.
+fn probe(entry: Entry) -> u16
+    ensures { λ r. ⌜ r ≡ probeOf entry ⌝ }
+{
+    match entry {
+        Entry::Reading { probe, report: _ } => probe,
+        Entry::Refused(_) => 0,
+    }
+}
+
+// Whether one probe stands on both sides. Number 0 is nobody's.
+pub fn shares(left: Entry, right: Entry) -> Shared
+    ensures { λ r. ⌜ r ≡ sharedOf left right ⌝ }
+{
+    let l = probe(left);
+    let r = probe(right);
+    if l == 0 {
+        return Shared::No;
+    }
+    if l == r {
+        return Shared::Yes;
+    }
+    Shared::No
 }
 
 // Its pressure; a refused one has none, and does not count.
@@ -96,8 +128,8 @@ pub fn beside(one: Checked, other: Checked) -> Side
 }
 
 // The needle of two sides.
-pub fn needle(left: Side, right: Side) -> Needle
-    ensures { λ r. ⌜ r ≡ needleBetween left right ⌝ }
+pub fn needle(left: Side, right: Side, shared: Shared) -> Needle
+    ensures { λ r. ⌜ r ≡ needleBetween left right shared ⌝ }
 {
     let l = left.channel;
     let r = right.channel;
@@ -115,7 +147,10 @@ pub fn needle(left: Side, right: Side) -> Needle
                 density: _,
                 bulk: _,
                 remarks: _,
-            } => Needle::Value(right.under as i64 - left.under as i64),
+            } => match shared {
+                Shared::Yes => Needle::Refused(Refusal::SameProbe.number()),
+                Shared::No => Needle::Value(right.under as i64 - left.under as i64),
+            },
         },
     }
 }
@@ -133,6 +168,7 @@ pub fn answer(entry: Entry) -> Channel
 pub fn paired(left: Entry, right: Entry) -> Comparison
     ensures { λ r. ⌜ r ≡ comparisonOf left right ⌝ }
 {
+    let shared = shares(left, right);
     let l = entered(left);
     let r = entered(right);
     let a = beside(l, r);
@@ -142,6 +178,6 @@ pub fn paired(left: Entry, right: Entry) -> Comparison
     Comparison {
         left: first,
         right: second,
-        needle: needle(a, b),
+        needle: needle(a, b, shared),
     }
 }

@@ -20,10 +20,12 @@ use Rattle.readings.specs.Check.{givenOf}
 use Rattle.channels.specs.declared.Channel.{Channel}
 use Rattle.channels.specs.declared.Needle.{Needle}
 use Rattle.channels.specs.declared.Comparison.{Comparison}
-use Rattle.panel.specs.Panel.{channelOf, common, needleOf, comparisonOf}
+use Rattle.panel.specs.declared.Shared.{Shared}
+use Rattle.panel.specs.Panel.{channelOf, common, sharedOf, needleOf, comparisonOf}
 use Rattle.panel.proofs.answer.Reads as answer
 use Rattle.panel.proofs.paired.Reads as paired
 use Rattle.panel.proofs.Needles as panel
+use Rattle.panel.proofs.Probes as probes
 use Rattle.promises.specs.Promises.{Rooted, Within, Close}
 use Rattle.pledges.specs.Pledges.{formulaUnder, formulaAt, Shows, Sides}
 use Rattle.pledges.proofs.Pledges as pledge
@@ -39,8 +41,8 @@ module _ (κs : Lifetimes.Lfts 0) (a : _) (r : _) (s : _) (told : answer.Learnt 
   stiffer-than-pressure = pledge.stiffer-than-pressure (a .0) p d k m (is ∙ told)
 
   -- what it shows, of the floats that it was given
-  pub shows : (report : Report) (x : Reading) → a .0 ≡ Entry.Reading report → givenOf report ≡ some x → Shows x d
-  shows report x e g = record { report = report; reading-is = g; point = p; bulk = k; remarks = m; channel-is = is ∙ told ∙ ap channelOf e }
+  pub shows : (probe : ℕ) (report : Report) (x : Reading) → a .0 ≡ Entry.Reading probe report → givenOf report ≡ some x → Shows x d
+  shows probe report x e g = record { probe = probe; report = report; reading-is = g; point = p; bulk = k; remarks = m; channel-is = is ∙ told ∙ ap channelOf e }
 
 -- ---- one call of `paired`, whose answer has a needle of z
 module _
@@ -54,9 +56,16 @@ module _
   unfolding comparisonOf
   right-is = r-is ∙ ap (λ (c : Comparison). c .right) told
 
-  needle-is : Needle.Value z ≡ needleOf (channelOf (a .0)) (channelOf (a .1 .0))
+  needle-is : Needle.Value z ≡ needleOf (channelOf (a .0)) (channelOf (a .1 .0)) (sharedOf (a .0) (a .1 .0))
   unfolding comparisonOf
   needle-is = n-is ∙ ap (λ (c : Comparison). c .needle) told
+
+  -- a value: no probe stands on both sides
+  pub apart : sharedOf (a .0) (a .1 .0) ≡ Shared.No
+  apart = panel.value-apart (channelOf (a .0)) (channelOf (a .1 .0)) (sharedOf (a .0) (a .1 .0)) z (sym needle-is)
+
+  value-is : Needle.Value z ≡ needleOf (channelOf (a .0)) (channelOf (a .1 .0)) Shared.No
+  value-is = needle-is ∙ ap (needleOf (channelOf (a .0)) (channelOf (a .1 .0))) apart
 
   -- what the formula says, with a fraction in place of each root
   module _ (x y : Frac) (v : Rooted (plus (p .sigma)) x) (w : Rooted (plus (q .sigma)) y) where
@@ -92,27 +101,26 @@ module _
 
   -- the same water at any two depths has a needle of 0
   pub same-water : p .sigma ≡ q .sigma → p .tau ≡ q .tau → z ≡ pos 0
-  same-water s t = panel.taken (needle-is ∙ panel.same-water (channelOf (a .0)) (channelOf (a .1 .0)) p q d k d′ k′ m n (sym left-is) (sym right-is) s t)
+  same-water s t = panel.taken (value-is ∙ panel.same-water (channelOf (a .0)) (channelOf (a .1 .0)) p q d k d′ k′ m n (sym left-is) (sym right-is) s t)
 
   -- at equal pressures the needle is the difference of the densities beside it
   pub level : p .pi ≡ q .pi → z ≡ pos d′ -ℤ pos d
-  level e = panel.taken (needle-is ∙ panel.level (a .0) (a .1 .0) p q d k d′ k′ m n (sym left-is) (sym right-is) e)
+  level e = panel.taken (value-is ∙ panel.level (a .0) (a .1 .0) p q d k d′ k′ m n (sym left-is) (sym right-is) e)
 
   -- the same two the other way round: the sign turns
   pub swapped : (κs′ : Lifetimes.Lfts 0) (r′ : _) (s′ : _) → paired.Learnt κs′ (a .1 .0, (a .0, a .1 .1)) r′ s′ → r′ .needle ≡ Needle.Value (negℤ z)
-  unfolding comparisonOf
-  swapped κs′ r′ s′ told′ = ap (λ (c : Comparison). c .needle) told′ ∙ panel.swapped (channelOf (a .0)) (channelOf (a .1 .0)) z (sym needle-is)
+  swapped κs′ r′ s′ told′ = probes.told-swap-turns κs a r s told κs′ r′ s′ told′ z (sym n-is)
 
 -- ---- two calls of `answer` on readings x and y
 module _
     (κs κs′ : Lifetimes.Lfts 0) (a b : _) (l r : _) (s t : _) (first : answer.Learnt κs a l s) (second : answer.Learnt κs′ b r t)
     (p q : Point) (d k d′ k′ : ℕ) (m n : Remarks) (l-is : Channel.Accepted p d k m ≡ l) (r-is : Channel.Accepted q d′ k′ n ≡ r)
-    (f g : Report) (x y : Reading) (a-is : a .0 ≡ Entry.Reading f) (b-is : b .0 ≡ Entry.Reading g)
+    (i j : ℕ) (f g : Report) (x y : Reading) (a-is : a .0 ≡ Entry.Reading i f) (b-is : b .0 ≡ Entry.Reading j g)
     (x-is : givenOf f ≡ some x) (y-is : givenOf g ≡ some y) where
   -- 3. at the same temperature and pressure saltier water never shows lighter
   pub saltier : Same (x .temperature) (y .temperature) → Same (x .pressure) (y .pressure) → AtMost (x .salinity) (y .salinity) → d ≤ d′
-  saltier = pledge.saltier x y d d′ (shows κs a l s first p d k m l-is f x a-is x-is) (shows κs′ b r t second q d′ k′ n r-is g y b-is y-is)
+  saltier = pledge.saltier x y d d′ (shows κs a l s first p d k m l-is i f x a-is x-is) (shows κs′ b r t second q d′ k′ n r-is j g y b-is y-is)
 
   -- 4. at the same salinity and temperature deeper water never shows lighter
   pub deeper : Same (x .salinity) (y .salinity) → Same (x .temperature) (y .temperature) → AtMost (x .pressure) (y .pressure) → d ≤ d′
-  deeper = pledge.deeper x y d d′ (shows κs a l s first p d k m l-is f x a-is x-is) (shows κs′ b r t second q d′ k′ n r-is g y b-is y-is)
+  deeper = pledge.deeper x y d d′ (shows κs a l s first p d k m l-is i f x a-is x-is) (shows κs′ b r t second q d′ k′ n r-is j g y b-is y-is)

@@ -1,7 +1,7 @@
 -- Demand 3 of what the public calls return: an accepted channel shows the recipe's numbers at a point of the grid, of which the
 -- promises speak, and the point keeps the order of the floats. Assumes nothing.
 use Prim.Native.Nat.{ℕ, _≤_}
-use mathlib.Core.Path.{_≡_, sym, ap₂, _∙_, subst}
+use mathlib.Core.Path.{_≡_, sym, _∙_, subst}
 use native.Mathlib.Omega.{arith}
 use lib.IntN.{ℤ, pos, _-ℤ_}
 use lib.Signed.{_≤ℤ_}
@@ -20,9 +20,9 @@ use Rattle.readings.specs.declared.Remarks.{Remarks}
 use Rattle.readings.proofs.Reasons.{Gridded}
 use Rattle.readings.specs.declared.Entry.{Entry}
 use Rattle.channels.specs.declared.Channel.{Channel}
-use Rattle.panel.specs.Panel.{channelOf, common, shownUnder, needleOf}
+use Rattle.panel.specs.Panel.{channelOf, common, shownUnder, sharedOf}
 use Rattle.panel.proofs.Answers.{accepted-gridded}
-use Rattle.panel.proofs.Needles.{taken}
+use Rattle.panel.proofs.Needles.{value-is}
 use Rattle.panel.proofs.Sizes.{accepted-shows, accepted-table}
 use Rattle.promises.specs.Promises.{OnGrid, Sample, Close}
 use Rattle.promises.proofs.Promises as promise
@@ -67,7 +67,7 @@ deeper-at e f p q d k c j m n h i s t π =
     omega (arith, shows e p d k m h .density-is, l, promise.deeper (plus (p .sigma)) (p .tau) (plus (p .pi)) (plus (q .pi)) g g′ (more π))
 
 pub gridded : (x : Reading) (d : ℕ) (a : Shows x d) → Gridded x (a .point)
-gridded x d a = accepted-gridded (a .report) x (a .point) d (a .bulk) (a .remarks) (a .reading-is) (sym (a .channel-is))
+gridded x d a = accepted-gridded (a .probe) (a .report) x (a .point) d (a .bulk) (a .remarks) (a .reading-is) (sym (a .channel-is))
 
 number-same : (k : ℕ) (u v : Float) (m n : ℤ) → m ≡ gridNo k u → n ≡ gridNo k v → Same u v → m ≡ n
 number-same k u v m n e f h = e ∙ grid-same k u v h ∙ sym f
@@ -79,7 +79,7 @@ pub saltier : SaltierReading
 saltier x y d c a b t p s =
     let g = gridded x d a in
     let h = gridded y c b in
-    saltier-at (Entry.Reading (a .report)) (Entry.Reading (b .report)) (a .point) (b .point) d (a .bulk) c (b .bulk) (a .remarks) (b .remarks) (a .channel-is) (b .channel-is)
+    saltier-at (Entry.Reading (a .probe) (a .report)) (Entry.Reading (b .probe) (b .report)) (a .point) (b .point) d (a .bulk) c (b .bulk) (a .remarks) (b .remarks) (a .channel-is) (b .channel-is)
     (number-same 1000 (x .temperature) (y .temperature) _ _ (g .tau-is) (h .tau-is) t)
     (number-same 100 (x .pressure) (y .pressure) _ _ (g .pi-is) (h .pi-is) p)
     (number-order 1000 (x .salinity) (y .salinity) _ _ (g .sigma-is) (h .sigma-is) s)
@@ -88,7 +88,7 @@ pub deeper : DeeperReading
 deeper x y d c a b s t p =
     let g = gridded x d a in
     let h = gridded y c b in
-    deeper-at (Entry.Reading (a .report)) (Entry.Reading (b .report)) (a .point) (b .point) d (a .bulk) c (b .bulk) (a .remarks) (b .remarks) (a .channel-is) (b .channel-is)
+    deeper-at (Entry.Reading (a .probe) (a .report)) (Entry.Reading (b .probe) (b .report)) (a .point) (b .point) d (a .bulk) c (b .bulk) (a .remarks) (b .remarks) (a .channel-is) (b .channel-is)
     (number-same 1000 (x .salinity) (y .salinity) _ _ (g .sigma-is) (h .sigma-is) s)
     (number-same 1000 (x .temperature) (y .temperature) _ _ (g .tau-is) (h .tau-is) t)
     (number-order 100 (x .pressure) (y .pressure) _ _ (g .pi-is) (h .pi-is) p)
@@ -103,7 +103,7 @@ module _ (p q : Point) (x y : Frac) (z : ℤ) (r : Sides p q x y z) where
 
   -- the needle is the difference of the shown densities under the pressure in common
   needle-is : z ≡ pos (shownUnder (common p q) q) -ℤ pos (shownUnder (common p q) p)
-  needle-is = taken (r .needle-is ∙ ap₂ needleOf (sym (r .left-is)) (sym (r .right-is)))
+  needle-is = value-is (sharedOf (r .left) (r .right)) z (sym (r .left-is)) (sym (r .right-is)) (sym (r .needle-is))
 
 pub right-heavier : NeedleToRight
 unfolding left right

@@ -31,6 +31,7 @@ deep-at = record { sigma = pos 35_000; tau = pos 5_000; pi = pos 100_000 }
 pub shows-salt : Shows (surfaceOf (floatOf 0x00 0x00 0x0C 0x42) (floatOf 0x00 0x00 0xA0 0x40)) 1_027_675
 shows-salt =
     record {
+      probe = 0;
       report = Report.Surface (floatOf 0x00 0x00 0x0C 0x42) (floatOf 0x00 0x00 0xA0 0x40);
       reading-is = refl;
       point = salt-at;
@@ -71,11 +72,12 @@ abbrev pub f1000 : Float
 f1000 = floatOf 0x00 0x00 0x7A 0x44
 
 unfoldable pub shows-fresh : Shows (surfaceOf f0 f5) 999_967
-shows-fresh = record { report = Report.Surface f0 f5; reading-is = refl; point = fresh-at; bulk = 2_033_780; remarks = exact; channel-is = sym fresh-is }
+shows-fresh = record { probe = 0; report = Report.Surface f0 f5; reading-is = refl; point = fresh-at; bulk = 2_033_780; remarks = exact; channel-is = sym fresh-is }
 
 unfoldable pub shows-deep : Shows (deepOf f35 f5 f1000) 1_069_489
 shows-deep =
     record {
+      probe = 0;
       report = Report.Deep f35 f5 f1000;
       reading-is = refl;
       point = deep-at;

@@ -16,7 +16,7 @@ use Rattle.readings.specs.Check.{givenOf}
 use Rattle.readings.specs.declared.Entry.{Entry}
 use Rattle.channels.specs.declared.Channel.{Channel}
 use Rattle.channels.specs.declared.Needle.{Needle}
-use Rattle.panel.specs.Panel.{channelOf, common, needleOf}
+use Rattle.panel.specs.Panel.{channelOf, common, sharedOf, needleOf}
 use Rattle.promises.specs.Formula.{densityF}
 use Rattle.promises.specs.Promises.{Rooted, Within, Close}
 
@@ -35,14 +35,15 @@ AnswerWithin = (e : Entry) (p : Point) (d k : ℕ) (m : Remarks) (x : Frac) → 
 abbrev pub AnswerStiffer : Type 0
 AnswerStiffer = (e : Entry) (p : Point) (d k : ℕ) (m : Remarks) → Channel.Accepted p d k m ≡ channelOf e → plus (p .pi) < k
 
--- the panel shows the density d for a reading, whichever kind of report it came in
+-- the panel shows the density d for a reading, whichever kind of report it came in and whatever its probe's number
 pub record Shows (x : Reading) (d : ℕ) : Type 0 where
+  pub probe : ℕ
   pub report : Report
   pub reading-is : givenOf report ≡ some x
   pub point : Point
   pub bulk : ℕ
   pub remarks : Remarks
-  pub channel-is : Channel.Accepted point d bulk remarks ≡ channelOf (Entry.Reading report)
+  pub channel-is : Channel.Accepted point d bulk remarks ≡ channelOf (Entry.Reading probe report)
 
 -- 3. at the same temperature and pressure saltier water never shows lighter: of the probes' own floats, before any rounding
 abbrev pub SaltierReading : Type 0
@@ -56,7 +57,7 @@ DeeperReading =
     (x y : Reading) (d c : ℕ) → Shows x d → Shows y c →
     Same (x .salinity) (y .salinity) → Same (x .temperature) (y .temperature) → AtMost (x .pressure) (y .pressure) → d ≤ c
 
--- what the two sides of a needle were, with a fraction in place of √v for each, and the needle between them
+-- what the two sides of a needle were, with a fraction in place of √v for each, and the needle between them, which has a value
 pub record Sides (p q : Point) (x y : Frac) (z : ℤ) : Type 0 where
   pub left : Entry
   pub right : Entry
@@ -70,7 +71,7 @@ pub record Sides (p q : Point) (x y : Frac) (z : ℤ) : Type 0 where
   pub right-is : Channel.Accepted q right-density right-bulk right-remarks ≡ channelOf right
   pub left-root : Rooted (plus (p .sigma)) x
   pub right-root : Rooted (plus (q .sigma)) y
-  pub needle-is : Needle.Value z ≡ needleOf (channelOf left) (channelOf right)
+  pub needle-is : Needle.Value z ≡ needleOf (channelOf left) (channelOf right) (sharedOf left right)
 
 -- 5. a needle of 2 or more, either way, never names as heavier a water that the formula, with both under the greater of their pressures, makes equal
 -- or lighter

@@ -17,9 +17,9 @@ pub enum Report {
     Missing,
 }
 
-// What stands in a channel: a probe's report, or why its record gave none: 6, 7 or 8 and no other number.
+// What stands in a channel: a probe's number, 0 if it has none, and its report; or why its record gave none: 6, 7 or 8 and no other number.
 pub enum Entry {
-    Reading(Report),
+    Reading { probe: u16, report: Report },
     Refused(Unread),
 }
 

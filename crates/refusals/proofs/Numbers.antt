@@ -1,15 +1,15 @@
--- Refusal numbers: each is from 1 to 31, and no two refusals share one, since the number gives the refusal back. A record's are 6, 7
+-- Refusal numbers: each is from 1 to 32, and no two refusals share one, since the number gives the refusal back. A record's are 6, 7
 -- and 8. Assumes nothing.
 use mathlib.Core.Path.{_≡_, refl, sym, ap, _∙_}
 use mathlib.Core.Bool.{cond}
 use Prim.Native.Nat.{ℕ, _<_, _≤_}
 use lib.Dec.{eqb, lit<, lit≤}
 use Rattle.refusals.specs.declared.Refusal.{Refusal}
-use Rattle.refusals.specs.declared.Refusal.the-variants.{Missing, NotFinite, Salinity, Temperature, Pressure, Cut, Kind, Length, Room, PairNumber}
+use Rattle.refusals.specs.declared.Refusal.the-variants.{Missing, NotFinite, Salinity, Temperature, Pressure, Cut, Kind, Length, Room, PairNumber, SameProbe}
 use Rattle.refusals.specs.declared.Unread.{Unread}
 use Rattle.refusals.specs.Number.{numberOf, refusalOf}
 
-pub number-range : (r : Refusal) → (0 < numberOf r) × (numberOf r ≤ 31)
+pub number-range : (r : Refusal) → (0 < numberOf r) × (numberOf r ≤ 32)
 number-range Missing = (lit< tt, lit≤ tt)
 number-range NotFinite = (lit< tt, lit≤ tt)
 number-range Salinity = (lit< tt, lit≤ tt)
@@ -20,6 +20,7 @@ number-range Kind = (lit< tt, lit≤ tt)
 number-range Length = (lit< tt, lit≤ tt)
 number-range Room = (lit< tt, lit≤ tt)
 number-range PairNumber = (lit< tt, lit≤ tt)
+number-range SameProbe = (lit< tt, lit≤ tt)
 
 refusalWith : ℕ → Refusal
 refusalWith n =
@@ -31,7 +32,8 @@ refusalWith n =
     (cond (eqb n 6) Cut
     (cond (eqb n 7) Kind
     (cond (eqb n 8) Length
-    (cond (eqb n 30) Room PairNumber))))))))
+    (cond (eqb n 30) Room
+    (cond (eqb n 31) PairNumber SameProbe)))))))))
 
 back : (r : Refusal) → refusalWith (numberOf r) ≡ r
 unfolding refusalWith
@@ -45,6 +47,7 @@ back Kind = refl
 back Length = refl
 back Room = refl
 back PairNumber = refl
+back SameProbe = refl
 
 pub number-only : (r s : Refusal) → numberOf r ≡ numberOf s → r ≡ s
 number-only r s e = sym (back r) ∙ ap refusalWith e ∙ back s

@@ -1,7 +1,7 @@
 -- SPEC, "Refusal numbers and their order": the number of each refusal.
 use Prim.Native.Nat.{ℕ}
 use Rattle.refusals.specs.declared.Refusal.{Refusal}
-use Rattle.refusals.specs.declared.Refusal.the-variants.{Missing, NotFinite, Salinity, Temperature, Pressure, Cut, Kind, Length, Room, PairNumber}
+use Rattle.refusals.specs.declared.Refusal.the-variants.{Missing, NotFinite, Salinity, Temperature, Pressure, Cut, Kind, Length, Room, PairNumber, SameProbe}
 use Rattle.refusals.specs.declared.Unread.{Unread}
 
 abbrev pub numberOf : Refusal → ℕ
@@ -15,7 +15,7 @@ numberOf Temperature = 4
 numberOf Pressure = 5
 -- fewer than 4 bytes remain for a record's head, or fewer than its stated length for its body
 numberOf Cut = 6
--- the record's kind is none of 1, 2, 3
+-- the record's kind is none of 1, 2, 3, 17, 18, 19
 numberOf Kind = 7
 -- the record's length is not the kind's own
 numberOf Length = 8
@@ -23,6 +23,8 @@ numberOf Length = 8
 numberOf Room = 30
 -- the pair number is 0 or exceeds 9,999
 numberOf PairNumber = 31
+-- both readings are of one probe: the same number, other than 0
+numberOf SameProbe = 32
 
 -- the three that a record is refused by, when it gives no reading: 6, 7 and 8
 abbrev pub refusalOf : Unread → Refusal

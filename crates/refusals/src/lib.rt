@@ -14,6 +14,7 @@ pub enum Refusal {
     Length,
     Room,
     PairNumber,
+    SameProbe,
 }
 
 impl Refusal {
@@ -31,6 +32,7 @@ impl Refusal {
             Refusal::Length => 8,
             Refusal::Room => 30,
             Refusal::PairNumber => 31,
+            Refusal::SameProbe => 32,
         }
     }
 }

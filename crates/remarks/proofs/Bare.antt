@@ -1,5 +1,5 @@
 -- With the remarks left out, every definition of the panel is the one of specs/Bare: what is shown, compared and printed is as it is where nobody asks for
--- remarks. In the table and in the words of the C call they stand last, after what stood there before. Assumes nothing.
+-- remarks. In the table and in the words of the C call they stand after what stood there before. Assumes nothing.
 use Prim.Native.Nat.{ℕ, _+_}
 use mathlib.Core.Path.{_≡_, refl, ap, ap₂, _∙_}
 use mathlib.Core.Bool.{Bool, true, false, cond}
@@ -24,7 +24,8 @@ use Rattle.sea.specs.Water.{waterOf}
 use Rattle.carbon.specs.Carbon.{unpressed, dissolved, solubilityOf}
 use Rattle.channels.specs.declared.Channel.{Channel}
 use Rattle.channels.specs.Numbers.{channelNumber, channelDensity, channelBulk}
-use Rattle.panel.specs.Panel.{filled, wateredOf, checkedChannel, channelOf, needleOf}
+use Rattle.panel.specs.declared.Shared.{Shared}
+use Rattle.panel.specs.Panel.{filled, wateredOf, checkedChannel, channelOf, sharedOf, needleOf}
 use Rattle.pairs.specs.declared.Pair.{Pair}
 use Rattle.pairs.specs.Pairs.{pairs}
 use Rattle.cells.specs.Cells.{Cell, word, refusal}
@@ -40,6 +41,7 @@ use Rattle.remarks.specs.Bare.{
   firstWithout,
   orderWithout,
   checkedWithout,
+  BareChannel,
   bareChannel,
   filledWithout,
   wateredWithout,
@@ -96,7 +98,7 @@ filled-bare (Checked.Taken p m) = go (waterOf (p .sigma) (p .tau) (p .pi))
 
 pub channel-bare : (e : Entry) → bareChannel (channelOf e) ≡ channelWithout e
 unfolding channelOf
-channel-bare (Entry.Reading report) = filled-bare (checkedFor Purpose.Density report) ∙ ap wateredWithout (checked-bare Purpose.Density report)
+channel-bare (Entry.Reading n report) = filled-bare (checkedFor Purpose.Density report) ∙ ap wateredWithout (checked-bare Purpose.Density report)
 channel-bare (Entry.Refused u) = refl
 
 pub numbers-bare : (c : Channel) →
@@ -105,16 +107,17 @@ numbers-bare (Channel.Accepted p d k m) = (refl, (refl, refl))
 numbers-bare (Channel.Refused r) = (refl, (refl, refl))
 
 -- ---- the needle
-pub needle-bare : (l r : Channel) → needleOf l r ≡ needleWithout (bareChannel l) (bareChannel r)
-needle-bare (Channel.Refused r) c = refl
-needle-bare (Channel.Accepted p d k m) (Channel.Refused r) = refl
-needle-bare (Channel.Accepted p d k m) (Channel.Accepted q c j n) = refl
+pub needle-bare : (l r : Channel) (s : Shared) → needleOf l r s ≡ needleWithout (bareChannel l) (bareChannel r) s
+needle-bare (Channel.Refused r) c s = refl
+needle-bare (Channel.Accepted p d k m) (Channel.Refused r) s = refl
+needle-bare (Channel.Accepted p d k m) (Channel.Accepted q c j n) Shared.Yes = refl
+needle-bare (Channel.Accepted p d k m) (Channel.Accepted q c j n) Shared.No = refl
 
 -- ---- ln K0
 pub carbon-bare : (e : Entry) → solubilityOf e ≡ solubilityWithout e
 unfolding solubilityOf
 carbon-bare (Entry.Refused u) = refl
-carbon-bare (Entry.Reading report) =
+carbon-bare (Entry.Reading n report) =
     go (checkedFor Purpose.Carbon (unpressed report)) ∙ ap dissolvedWithout (checked-bare Purpose.Carbon (unpressed report))
   where
     go : (c : Checked) → dissolved c ≡ dissolvedWithout (bareChecked c)
@@ -131,8 +134,8 @@ unfolding lineOf placesText
 line-bare n l r =
     let a : placeText (channelOf l) ≡ textWithout (channelWithout l) = text-bare (channelOf l) ∙ ap textWithout (channel-bare l) in
     let b : placeText (channelOf r) ≡ textWithout (channelWithout r) = text-bare (channelOf r) ∙ ap textWithout (channel-bare r) in
-    let v : needleOf (channelOf l) (channelOf r) ≡ needleWithout (channelWithout l) (channelWithout r) =
-    needle-bare (channelOf l) (channelOf r) ∙ ap₂ needleWithout (channel-bare l) (channel-bare r) in
+    let v : needleOf (channelOf l) (channelOf r) (sharedOf l r) ≡ needleWithout (channelWithout l) (channelWithout r) (sharedOf l r) =
+    needle-bare (channelOf l) (channelOf r) (sharedOf l r) ∙ ap₂ (λ (x y : BareChannel). needleWithout x y (sharedOf l r)) (channel-bare l) (channel-bare r) in
     rw (a, b, v)
 
 -- pages whose lines are alike are alike
@@ -145,14 +148,14 @@ pub page-bare : (s : List ℕ) → pageOf s ≡ pageWithout s
 unfolding pageOf paged
 page-bare s = ap (λ (x : List ℕ). cond (ltb 60000 (length s)) tooLong (header ++ x)) (lines-alike lineOf lineWithout line-bare 1 (pairs s))
 
--- ---- the table and the words: what stood there, and then the remarks
+-- ---- the table and the words: what stood there, and then the remarks; in the table the probe's number after them
 abbrev pub remarksCell : Channel → Cell
 remarksCell (Channel.Accepted p d k m) = word (lettersOf m)
 remarksCell (Channel.Refused r) = refusal (numberOf r)
 
-pub columns-bare : (c : Channel) (gas : Cell) → columns c gas ≡ columnsWithout (bareChannel c) gas ++ (remarksCell c ∷ [])
-columns-bare (Channel.Accepted p d k m) gas = refl
-columns-bare (Channel.Refused r) gas = refl
+pub columns-bare : (c : Channel) (gas probe : Cell) → columns c gas probe ≡ columnsWithout (bareChannel c) gas ++ (remarksCell c ∷ probe ∷ [])
+columns-bare (Channel.Accepted p d k m) gas probe = refl
+columns-bare (Channel.Refused r) gas probe = refl
 
 abbrev pub remarksWords : Channel → List ℤ
 remarksWords (Channel.Accepted p d k m) = pos (remarkNumber (m .salinity)) ∷ pos (remarkNumber (m .temperature)) ∷ pos (remarkNumber (m .pressure)) ∷ []

@@ -41,20 +41,20 @@ told-by x p m g o =
 
 -- ---- one call of `answer`, whose answer r is an accepted channel
 module _ (κs : Lifetimes.Lfts 0) (a : _) (r : _) (s : _) (told : answer.Learnt κs a r s) (p : Point) (d k : ℕ) (m : Remarks) (is : Channel.Accepted p d k m ≡ r) where
-  channel-is : (report : Report) → a .0 ≡ Entry.Reading report → channelOf (Entry.Reading report) ≡ Channel.Accepted p d k m
-  channel-is report e = sym (is ∙ told ∙ ap channelOf e)
+  channel-is : (i : ℕ) (report : Report) → a .0 ≡ Entry.Reading i report → channelOf (Entry.Reading i report) ≡ Channel.Accepted p d k m
+  channel-is i report e = sym (is ∙ told ∙ ap channelOf e)
 
   -- the remarks are those of the floats that it was given
-  pub remarks-told : (report : Report) (x : Reading) → a .0 ≡ Entry.Reading report → givenOf report ≡ some x → Remarked x m
-  remarks-told report x e g = accepted-remarked report x p d k m g (channel-is report e)
+  pub remarks-told : (i : ℕ) (report : Report) (x : Reading) → a .0 ≡ Entry.Reading i report → givenOf report ≡ some x → Remarked x m
+  remarks-told i report x e g = accepted-remarked i report x p d k m g (channel-is i report e)
 
   -- with the grid numbers they say within which half step each of them lies
-  pub half-steps-told : (report : Report) (x : Reading) → a .0 ≡ Entry.Reading report → givenOf report ≡ some x → Told x p m
-  half-steps-told report x e g = told-by x p m (accepted-gridded report x p d k m g (channel-is report e)) (remarks-told report x e g)
+  pub half-steps-told : (i : ℕ) (report : Report) (x : Reading) → a .0 ≡ Entry.Reading i report → givenOf report ≡ some x → Told x p m
+  half-steps-told i report x e g = told-by x p m (accepted-gridded i report x p d k m g (channel-is i report e)) (remarks-told i report x e g)
 
   -- a probe at the surface: the pressure's is on
-  pub surface-told : (x y : Float) → a .0 ≡ Entry.Reading (Report.Surface x y) → m .pressure ≡ On
-  surface-told x y e = panel.surface-on x y p d k m (channel-is (Report.Surface x y) e)
+  pub surface-told : (i : ℕ) (x y : Float) → a .0 ≡ Entry.Reading i (Report.Surface x y) → m .pressure ≡ On
+  surface-told i x y e = panel.surface-on i x y p d k m (channel-is i (Report.Surface x y) e)
 
 -- ---- a real reading
 pub off-told :
@@ -65,4 +65,4 @@ off-told =
     let s = floatOf 0xFA 0xFE 0x0B 0x42 in
     let t = floatOf 0xCD 0xCC 0xCC 0xBD in
     let q = floatOf 0x00 0x00 0x7A 0x44 in
-    told-by (deepOf s t q) _ _ (accepted-gridded (Report.Deep s t q) (deepOf s t q) _ _ _ _ refl off-is) (accepted-remarked (Report.Deep s t q) (deepOf s t q) _ _ _ _ refl off-is)
+    told-by (deepOf s t q) _ _ (accepted-gridded 0 (Report.Deep s t q) (deepOf s t q) _ _ _ _ refl off-is) (accepted-remarked 0 (Report.Deep s t q) (deepOf s t q) _ _ _ _ refl off-is)

@@ -27,7 +27,8 @@ use Rattle.carbon.specs.Weiss.{kelvin, lnK0}
 use Rattle.carbon.specs.Carbon.{unpressed}
 use Rattle.channels.specs.declared.Channel.{Channel}
 use Rattle.channels.specs.declared.Needle.{Needle}
-use Rattle.panel.specs.Panel.{common, shownUnder}
+use Rattle.panel.specs.declared.Shared.{Shared}
+use Rattle.panel.specs.Panel.{common, shownUnder, sharedOf}
 use Rattle.cells.specs.Cells.{decimal, Cell, fixed, refusal}
 use Rattle.texts.specs.Text.{needleText}
 use Rattle.pages.specs.Page.{header, Line, paged}
@@ -86,7 +87,7 @@ wateredWithout (taken p) = filledWithout p (waterOf (p .sigma) (p .tau) (p .pi))
 wateredWithout (stopped r) = refused r
 
 abbrev pub channelWithout : Entry → BareChannel
-channelWithout (Entry.Reading report) = wateredWithout (checkedWithout Purpose.Density report)
+channelWithout (Entry.Reading n report) = wateredWithout (checkedWithout Purpose.Density report)
 channelWithout (Entry.Refused u) = refused (refusalOf u)
 
 -- its number, the shown density, the bulk modulus
@@ -103,10 +104,11 @@ bulkWithout (accepted p d k) = k
 bulkWithout (refused r) = 0
 
 -- ---- the needle
-abbrev pub needleWithout : BareChannel → BareChannel → Needle
-needleWithout (refused r) c = Needle.Refused (100 + numberOf r)
-needleWithout (accepted p d k) (refused r) = Needle.Refused (200 + numberOf r)
-needleWithout (accepted p d k) (accepted q c j) = Needle.Value (pos (shownUnder (common p q) q) -ℤ pos (shownUnder (common p q) p))
+abbrev pub needleWithout : BareChannel → BareChannel → Shared → Needle
+needleWithout (refused r) c s = Needle.Refused (100 + numberOf r)
+needleWithout (accepted p d k) (refused r) s = Needle.Refused (200 + numberOf r)
+needleWithout (accepted p d k) (accepted q c j) Shared.Yes = Needle.Refused (numberOf Refusal.SameProbe)
+needleWithout (accepted p d k) (accepted q c j) Shared.No = Needle.Value (pos (shownUnder (common p q) q) -ℤ pos (shownUnder (common p q) p))
 
 -- ---- ln K0
 abbrev pub dissolvedWithout : BareChecked → Solubility
@@ -114,7 +116,7 @@ dissolvedWithout (taken p) = Solubility.Known (lnK0 (plus (p .sigma)) (kelvin (p
 dissolvedWithout (stopped r) = Solubility.Refused r
 
 abbrev pub solubilityWithout : Entry → Solubility
-solubilityWithout (Entry.Reading report) = dissolvedWithout (checkedWithout Purpose.Carbon (unpressed report))
+solubilityWithout (Entry.Reading n report) = dissolvedWithout (checkedWithout Purpose.Carbon (unpressed report))
 solubilityWithout (Entry.Refused u) = Solubility.Refused (refusalOf u)
 
 -- ---- the sheet: a line, and the page of a stream
@@ -126,7 +128,7 @@ abbrev pub lineWithout : Line
 lineWithout n left right =
     let l = channelWithout left in
     let r = channelWithout right in
-    (decimal n ++ (32 ∷ [])) ++ ((textWithout l ++ (32 ∷ [])) ++ ((textWithout r ++ (32 ∷ [])) ++ (needleText (needleWithout l r) ++ (10 ∷ []))))
+    (decimal n ++ (32 ∷ [])) ++ ((textWithout l ++ (32 ∷ [])) ++ ((textWithout r ++ (32 ∷ [])) ++ (needleText (needleWithout l r (sharedOf left right)) ++ (10 ∷ []))))
 
 abbrev pub pageWithout : List ℕ → List ℕ
 pageWithout s = paged header lineWithout s

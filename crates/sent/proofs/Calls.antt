@@ -16,7 +16,7 @@ use Rattle.readings.specs.Check.{givenOf}
 use Rattle.channels.specs.declared.Channel.{Channel}
 use Rattle.channels.specs.declared.Needle.{Needle}
 use Rattle.channels.specs.declared.Comparison.{Comparison}
-use Rattle.panel.specs.Panel.{channelOf, needleOf, comparisonOf}
+use Rattle.panel.specs.Panel.{channelOf, sharedOf, needleOf, comparisonOf}
 use Rattle.panel.proofs.answer.Reads as answer
 use Rattle.panel.proofs.paired.Reads as paired
 use Rattle.promises.specs.Promises.{Within}
@@ -28,24 +28,24 @@ use Rattle.sent.proofs.Sent as sent
 -- ---- one call of `answer` with a report of the reading r, whose answer is an accepted channel
 pub shown-within :
     (κs : Lifetimes.Lfts 0) (a : _) (c : _) (s : _) → answer.Learnt κs a c s →
-    (p : Point) (d k : ℕ) (m : Remarks) → Channel.Accepted p d k m ≡ c → (report : Report) (r : Reading) → a .0 ≡ Entry.Reading report → givenOf report ≡ some r →
+    (p : Point) (d k : ℕ) (m : Remarks) → Channel.Accepted p d k m ≡ c → (probe : ℕ) (report : Report) (r : Reading) → a .0 ≡ Entry.Reading probe report → givenOf report ≡ some r →
     (x : Frac) → RootOf (vOf r) x → Within (over 14 10_000) (pos d) (sentAt r x)
-shown-within κs a c s told p d k m is report r e g x v = sent.shown-within r d x (call.shows κs a c s told p d k m is report r e g) v
+shown-within κs a c s told p d k m is probe report r e g x v = sent.shown-within r d x (call.shows κs a c s told p d k m is probe report r e g) v
 
 -- ---- one call of `paired` with reports of the readings l and r, whose answer has a needle of z
 module _
     (κs : Lifetimes.Lfts 0) (a : _) (c : _) (s : _) (told : paired.Learnt κs a c s)
     (p q : Point) (d k d′ k′ : ℕ) (m n : Remarks) (l-is : Channel.Accepted p d k m ≡ c .left) (r-is : Channel.Accepted q d′ k′ n ≡ c .right) (z : ℤ) (n-is : Needle.Value z ≡ c .needle)
-    (f g : Report) (l r : Reading) (a-is : a .0 ≡ Entry.Reading f) (b-is : a .1 .0 ≡ Entry.Reading g) (l-given : givenOf f ≡ some l) (r-given : givenOf g ≡ some r) where
+    (i j : ℕ) (f g : Report) (l r : Reading) (a-is : a .0 ≡ Entry.Reading i f) (b-is : a .1 .0 ≡ Entry.Reading j g) (l-given : givenOf f ≡ some l) (r-given : givenOf g ≡ some r) where
   pub compares : Compares l r z
   unfolding comparisonOf
   compares =
       record {
         left-density = d;
         right-density = d′;
-        left = record { report = f; reading-is = l-given; point = p; bulk = k; remarks = m; channel-is = l-is ∙ ap (λ (x : Comparison). x .left) told ∙ ap channelOf a-is };
-        right = record { report = g; reading-is = r-given; point = q; bulk = k′; remarks = n; channel-is = r-is ∙ ap (λ (x : Comparison). x .right) told ∙ ap channelOf b-is };
-        needle-is = n-is ∙ ap (λ (x : Comparison). x .needle) told ∙ ap₂ (λ (i j : Entry). needleOf (channelOf i) (channelOf j)) a-is b-is;
+        left = record { probe = i; report = f; reading-is = l-given; point = p; bulk = k; remarks = m; channel-is = l-is ∙ ap (λ (x : Comparison). x .left) told ∙ ap channelOf a-is };
+        right = record { probe = j; report = g; reading-is = r-given; point = q; bulk = k′; remarks = n; channel-is = r-is ∙ ap (λ (x : Comparison). x .right) told ∙ ap channelOf b-is };
+        needle-is = n-is ∙ ap (λ (x : Comparison). x .needle) told ∙ ap₂ (λ (e e′ : Entry). needleOf (channelOf e) (channelOf e′) (sharedOf e e′)) a-is b-is;
       }
 
   module _ (x y : Frac) (v : RootOf (vOf l) x) (w : RootOf (vOf r) y) where

@@ -21,6 +21,7 @@ use Rattle.readings.specs.declared.Remarks.{Remarks}
 use Rattle.readings.specs.declared.Entry.{Entry}
 use Rattle.channels.specs.declared.Channel.{Channel}
 use Rattle.channels.specs.declared.Needle.{Needle}
+use Rattle.panel.specs.declared.Shared.{Shared}
 use Rattle.panel.specs.Panel.{wateredOf, channelOf, needleOf}
 use Rattle.panel.proofs.Needles.{swapped}
 use Rattle.panel.proofs.Samples.{deep-needle-is, turned-needle-is}
@@ -33,8 +34,8 @@ use Rattle.sent.proofs.Sent.{rootSent, root-sent}
 abbrev deep : Reading → Report
 deep r = Report.Deep (r .salinity) (r .temperature) (r .pressure)
 
-shows : (r : Reading) (p : Point) (d k : ℕ) (m : Remarks) → channelOf (Entry.Reading (deep r)) ≡ Channel.Accepted p d k m → Shows r d
-shows r p d k m e = record { report = deep r; reading-is = refl; point = p; bulk = k; remarks = m; channel-is = sym e }
+shows : (r : Reading) (p : Point) (d k : ℕ) (m : Remarks) → channelOf (Entry.Reading 0 (deep r)) ≡ Channel.Accepted p d k m → Shows r d
+shows r p d k m e = record { probe = 0; report = deep r; reading-is = refl; point = p; bulk = k; remarks = m; channel-is = sym e }
 
 -- fresh water at the surface beside salt water at 1,000 bar, and the other way round: needles of 3 or more
 pub compares-depths : Compares (surfaceOf f0 f5) (deepOf f35 f5 f1000) (pos 25_361)
@@ -71,18 +72,18 @@ warm-off = record { salinity = Above; temperature = Below; pressure = Above }
 abbrev cool-off : Remarks
 cool-off = record { salinity = Below; temperature = Above; pressure = On }
 
-warm-is : channelOf (Entry.Reading (deep warm)) ≡ Channel.Accepted warm-at 1_022_898 2_441_268 warm-off
+warm-is : channelOf (Entry.Reading 0 (deep warm)) ≡ Channel.Accepted warm-at 1_022_898 2_441_268 warm-off
 unfolding ofBits channelOf checkedFor placedFor placeOf inside gridNo remarkOf wateredOf waterOf rangeOf scaled rowValue rootFrom rootOf Dw Ds Dr Dss Kw Ks Kr Aw As Ar Bw Bs rowsAt rootAt surface K0 A B bulk hundredths mass net gain density shown bulkOf shownOf shownAt modulusAt
 warm-is = refl
 
-cool-is : channelOf (Entry.Reading (deep cool)) ≡ Channel.Accepted cool-at 1_023_092 2_442_739 cool-off
+cool-is : channelOf (Entry.Reading 0 (deep cool)) ≡ Channel.Accepted cool-at 1_023_092 2_442_739 cool-off
 unfolding ofBits channelOf checkedFor placedFor placeOf inside gridNo remarkOf wateredOf waterOf rangeOf scaled rowValue rootFrom rootOf Dw Ds Dr Dss Kw Ks Kr Aw As Ar Bw Bs rowsAt rootAt surface K0 A B bulk hundredths mass net gain density shown bulkOf shownOf shownAt modulusAt
 cool-is = refl
 
 -- the needle between them, 1,023,092 − 1,023,090
-two : needleOf (channelOf (Entry.Reading (deep warm))) (channelOf (Entry.Reading (deep cool))) ≡ Needle.Value (pos 2)
+two : needleOf (channelOf (Entry.Reading 0 (deep warm))) (channelOf (Entry.Reading 0 (deep cool))) Shared.No ≡ Needle.Value (pos 2)
 unfolding scaled rowValue rootFrom rootOf Dw Ds Dr Dss Kw Ks Kr Aw As Ar Bw Bs rowsAt rootAt surface K0 A B bulk mass net gain density shown bulkOf shownOf shownAt
-two = ap₂ needleOf warm-is cool-is
+two = ap₂ (λ (l r : Channel). needleOf l r Shared.No) warm-is cool-is
 
 pub shows-warm : Shows warm 1_022_898
 shows-warm = shows warm warm-at 1_022_898 2_441_268 warm-off warm-is
@@ -97,7 +98,7 @@ compares-right = record { left-density = 1_022_898; right-density = 1_023_092; l
 pub compares-left : Compares cool warm (neg 2)
 unfolding shows shows-warm shows-cool
 compares-left =
-    let turned = swapped (channelOf (Entry.Reading (deep warm))) (channelOf (Entry.Reading (deep cool))) (pos 2) two in
+    let turned = swapped (channelOf (Entry.Reading 0 (deep warm))) (channelOf (Entry.Reading 0 (deep cool))) Shared.No (pos 2) two in
     record { left-density = 1_023_092; right-density = 1_022_898; left = shows-cool; right = shows-warm; needle-is = sym turned }
 
 -- the formula makes the cool water, which the needle names, the lighter of the two, at the 5 bar that both have in common
@@ -120,7 +121,7 @@ far = deepOf (floatOf 0x7B 0xD4 0x27 0x42) (floatOf 0x81 0xD5 0x1F 0x42) (floatO
 abbrev far-off : Remarks
 far-off = record { salinity = Below; temperature = Above; pressure = Below }
 
-far-is : channelOf (Entry.Reading (deep far)) ≡ Channel.Accepted (record { sigma = pos 41_958; tau = pos 39_958; pi = pos 60 }) 1_023_176 2_443_048 far-off
+far-is : channelOf (Entry.Reading 0 (deep far)) ≡ Channel.Accepted (record { sigma = pos 41_958; tau = pos 39_958; pi = pos 60 }) 1_023_176 2_443_048 far-off
 unfolding ofBits channelOf checkedFor placedFor placeOf inside gridNo remarkOf wateredOf waterOf rangeOf scaled rowValue rootFrom rootOf Dw Ds Dr Dss Kw Ks Kr Aw As Ar Bw Bs rowsAt rootAt surface K0 A B bulk hundredths mass net gain density shown bulkOf shownOf shownAt modulusAt
 far-is = refl
 

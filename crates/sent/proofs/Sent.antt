@@ -1,7 +1,7 @@
 -- A float's grid number is at most half a step from its exact value, and the greater of two floats has the greater of their grid numbers: so a reading
 -- that the panel accepts stands beside its point, at its own pressure and under one in common. Assumes nothing.
 use Prim.Native.Nat.{ℕ, _*_, _/_, _≤_, _<_}
-use mathlib.Core.Path.{_≡_, sym, ap, ap₂, subst, _∙_}
+use mathlib.Core.Path.{_≡_, sym, ap, subst, _∙_}
 use mathlib.Core.Bool.{Bool, true, false, not, cond, _&&_}
 use native.Mathlib.Omega.{arith}
 use native.Mathlib.Nat.{mul-le-mul-right, mul-pos}
@@ -22,9 +22,9 @@ use Rattle.readings.specs.Check.{salinities}
 use Rattle.readings.specs.declared.Reading.{Reading}
 use Rattle.readings.specs.declared.Point.{Point}
 use Rattle.readings.specs.declared.Entry.{Entry}
-use Rattle.panel.specs.Panel.{common, shownUnder, needleOf}
+use Rattle.panel.specs.Panel.{common, shownUnder, sharedOf}
 use Rattle.panel.proofs.Answers.{accepted-inside}
-use Rattle.panel.proofs.Needles.{taken}
+use Rattle.panel.proofs.Needles.{value-is}
 use Rattle.panel.proofs.Sizes.{accepted-table}
 use Rattle.promises.specs.Formula.{grid}
 use Rattle.promises.proofs.Needle.{to-within, difference-within, heavier}
@@ -88,7 +88,7 @@ module _ {r : Reading} {d : ℕ} (s : Shows r d) where
   p = s .point
 
   table : OnTable (p .sigma) (p .tau) (p .pi)
-  table = accepted-table (Entry.Reading (s .report)) p d (s .bulk) (s .remarks) (sym (s .channel-is))
+  table = accepted-table (Entry.Reading (s .probe) (s .report)) p d (s .bulk) (s .remarks) (sym (s .channel-is))
 
   σ-is : gridNo 1000 (r .salinity) ≡ pos (plus (p .sigma))
   σ-is = sym (pledge.gridded r d s .sigma-is) ∙ natural (table .salinity) .is
@@ -99,7 +99,7 @@ module _ {r : Reading} {d : ℕ} (s : Shows r d) where
   -- under the pressure of any float that has a grid number of the table
   pub beside : (f : Float) (π : ℕ) (x : Frac) → gridNo 100 f ≡ pos π → π ≤ 100_000 → RootOf (vOf r) x → Beside (plus (p .sigma)) (p .tau) π (vOf r) x (uOf r) (valueBy 1_000 f)
   beside f π x e h v =
-      let g = pledge.on-grid (Entry.Reading (s .report)) p d (s .bulk) (s .remarks) (s .channel-is) in
+      let g = pledge.on-grid (Entry.Reading (s .probe) (s .report)) p d (s .bulk) (s .remarks) (s .channel-is) in
       record {
         on-grid = record { salt = g .salt; cold = g .cold; warm = g .warm; deep = h };
         salinity = subst (λ (z : ℤ). HalfStep (grid z) (vOf r)) σ-is (rounds 1000 100 (r .salinity) (omega arith) (omega arith));
@@ -116,7 +116,7 @@ module _ {r : Reading} {d : ℕ} (s : Shows r d) where
 
 pub shown-within : SentWithin
 shown-within r d x s v =
-    rw (pledge.shows (Entry.Reading (s .report)) (s .point) d (s .bulk) (s .remarks) (s .channel-is) .density-is) (to-within (omega arith) (omega arith) (omega arith) (near-own s x v))
+    rw (pledge.shows (Entry.Reading (s .probe) (s .report)) (s .point) d (s .bulk) (s .remarks) (s .channel-is) .density-is) (to-within (omega arith) (omega arith) (omega arith) (near-own s x v))
 
 -- the formula's density there is a fraction: its lower number is above 0, and so K is above P
 pub sent-fraction : (r : Reading) (d : ℕ) (x : Frac) → Shows r d → RootOf (vOf r) x → 0 < sentAt r x .den
@@ -142,7 +142,9 @@ module _ (l r : Reading) (z : ℤ) (c : Compares l r z) where
       go f (second h) = π-is (c .right) ∙ ap pos (omega (arith, more (l .pressure) (r .pressure) h, ap plus (π-is (c .left)), ap plus (π-is (c .right))))
 
   needle-is : z ≡ pos (shownUnder π (c .right .point)) -ℤ pos (shownUnder π (c .left .point))
-  needle-is = taken (c .needle-is ∙ ap₂ needleOf (sym (c .left .channel-is)) (sym (c .right .channel-is)))
+  needle-is =
+      value-is (sharedOf (Entry.Reading (c .left .probe) (c .left .report)) (Entry.Reading (c .right .probe) (c .right .report))) z
+      (sym (c .left .channel-is)) (sym (c .right .channel-is)) (sym (c .needle-is))
 
   left-near : (x : Frac) → RootOf (vOf l) x → Near 10_000 (sentUnder (commonSent l r) l x) (pos (10 * shownUnder π (c .left .point))) 14 14
   left-near x v = near-under (c .left) (greater (l .pressure) (r .pressure)) π x common-is π-small v
@@ -189,5 +191,5 @@ rootSent r = over (rootOf (100_000_000_000_000 * plus (numer (r .salinity)) / (1
 
 pub root-sent : {r : Reading} {d : ℕ} → Shows r d → RootOf (vOf r) (rootSent r)
 root-sent {r} {d} s =
-    let e = salty (r .salinity) (accepted-inside (s .report) r (s .point) d (s .bulk) (s .remarks) (s .reading-is) (sym (s .channel-is))) in
+    let e = salty (r .salinity) (accepted-inside (s .probe) (s .report) r (s .point) d (s .bulk) (s .remarks) (s .reading-is) (sym (s .channel-is))) in
     root-there (vOf r) (omega (arith, order.denom-pos (r .salinity))) (e .0) (e .1)

@@ -14,7 +14,7 @@ use Rattle.floats.specs.Grid.{numer, denom}
 use Rattle.readings.specs.declared.Reading.{Reading}
 use Rattle.readings.specs.declared.Entry.{Entry}
 use Rattle.channels.specs.declared.Needle.{Needle}
-use Rattle.panel.specs.Panel.{channelOf, needleOf}
+use Rattle.panel.specs.Panel.{channelOf, sharedOf, needleOf}
 use Rattle.promises.specs.Formula.{densityAt}
 use Rattle.promises.specs.Promises.{Within}
 use Rattle.pledges.specs.Pledges.{Shows}
@@ -55,7 +55,10 @@ pub record Compares (l r : Reading) (z : ℤ) : Type 0 where
   pub right-density : ℕ
   pub left : Shows l left-density
   pub right : Shows r right-density
-  pub needle-is : Needle.Value z ≡ needleOf (channelOf (Entry.Reading (left .report))) (channelOf (Entry.Reading (right .report)))
+  pub needle-is :
+      let a = Entry.Reading (left .probe) (left .report) in
+      let b = Entry.Reading (right .probe) (right .report) in
+      Needle.Value z ≡ needleOf (channelOf a) (channelOf b) (sharedOf a b)
 
 -- ---- the promises, for every fraction in place of each root. (Every reading that is shown has one, `root-sent` of proofs/Sent, and none of the bracket is
 -- left out, `root-every` of drift/proofs/Root.)

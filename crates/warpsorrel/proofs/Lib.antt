@@ -1,3 +1,4 @@
 mod Words
 pub mod One
 pub mod Told
+pub mod Probes

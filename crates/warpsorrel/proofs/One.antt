@@ -46,12 +46,12 @@ one-root κs a r r′ s s′ e f = (e .0 ∙ sym (f .0), e .1 ∙ sym (f .1))
 
 pub one-channel :
     (κs : Lifetimes.Lfts 1) (a : _) (r r′ : _) (s s′ : _) → channel.Learnt κs a r s → channel.Learnt κs a r′ s′ →
-    (r ≡ r′) × (s .1 .1 .1 .1 .0 .now ≡ s′ .1 .1 .1 .1 .0 .now)
+    (r ≡ r′) × (s .1 .1 .1 .1 .1 .0 .now ≡ s′ .1 .1 .1 .1 .1 .0 .now)
 one-channel κs a r r′ s s′ e f = (e .0 ∙ sym (f .0), e .1 ∙ sym (f .1))
 
 pub one-needle :
     (κs : Lifetimes.Lfts 1) (a : _) (r r′ : _) (s s′ : _) → needle.Learnt κs a r s → needle.Learnt κs a r′ s′ →
-    (r ≡ r′) × (s .1 .1 .1 .1 .1 .1 .1 .1 .0 .now ≡ s′ .1 .1 .1 .1 .1 .1 .1 .1 .0 .now)
+    (r ≡ r′) × (s .1 .1 .1 .1 .1 .1 .1 .1 .1 .1 .0 .now ≡ s′ .1 .1 .1 .1 .1 .1 .1 .1 .1 .1 .0 .now)
 one-needle κs a r r′ s s′ e f = (e .0 ∙ sym (f .0), e .1 ∙ sym (f .1))
 
 pub one-co2 :
@@ -67,12 +67,12 @@ one-pair κs a r r′ s s′ e f = (e .0 ∙ sym (f .0), e .1 ∙ sym (f .1))
 -- a text at the start of out, and its bytes in count
 pub one-line :
     (κs : Lifetimes.Lfts 2) (a : _) (r r′ : _) (s s′ : _) → line.Learnt κs a r s → line.Learnt κs a r′ s′ →
-    (r ≡ r′) × ((s .1 .1 .1 .1 .1 .1 .1 .1 .1 .1 .0 .now ≡ s′ .1 .1 .1 .1 .1 .1 .1 .1 .1 .1 .0 .now) × (s .1 .1 .1 .1 .1 .1 .1 .1 .1 .0 .now ≡ s′ .1 .1 .1 .1 .1 .1 .1 .1 .1 .0 .now))
+    (r ≡ r′) × ((s .1 .1 .1 .1 .1 .1 .1 .1 .1 .1 .1 .1 .0 .now ≡ s′ .1 .1 .1 .1 .1 .1 .1 .1 .1 .1 .1 .1 .0 .now) × (s .1 .1 .1 .1 .1 .1 .1 .1 .1 .1 .1 .0 .now ≡ s′ .1 .1 .1 .1 .1 .1 .1 .1 .1 .1 .1 .0 .now))
 one-line κs a r r′ s s′ e f =
     let count = e .1 .0 ∙ sym (f .1 .0) in
-    let left = entryOf (a .1 .0) (a .1 .1 .0) (a .1 .1 .1 .0) (a .1 .1 .1 .1 .0) in
-    let right = entryOf (a .1 .1 .1 .1 .1 .0) (a .1 .1 .1 .1 .1 .1 .0) (a .1 .1 .1 .1 .1 .1 .1 .0) (a .1 .1 .1 .1 .1 .1 .1 .1 .0) in
-    (e .0 ∙ sym (f .0), (count, e .1 .1 ∙ ap (λ (n : ℕ). written n (lineOf (a .0) left right) (a .1 .1 .1 .1 .1 .1 .1 .1 .1 .0 .now)) count ∙ sym (f .1 .1)))
+    let left = entryOf (a .1 .0) (a .1 .1 .0) (a .1 .1 .1 .0) (a .1 .1 .1 .1 .0) (a .1 .1 .1 .1 .1 .0) in
+    let right = entryOf (a .1 .1 .1 .1 .1 .1 .0) (a .1 .1 .1 .1 .1 .1 .1 .0) (a .1 .1 .1 .1 .1 .1 .1 .1 .0) (a .1 .1 .1 .1 .1 .1 .1 .1 .1 .0) (a .1 .1 .1 .1 .1 .1 .1 .1 .1 .1 .0) in
+    (e .0 ∙ sym (f .0), (count, e .1 .1 ∙ ap (λ (n : ℕ). written n (lineOf (a .0) left right) (a .1 .1 .1 .1 .1 .1 .1 .1 .1 .1 .1 .0 .now)) count ∙ sym (f .1 .1)))
 
 pub one-page :
     (κs : Lifetimes.Lfts 3) (a : _) (r r′ : _) (s s′ : _) → page.Learnt κs a r s → page.Learnt κs a r′ s′ →

@@ -18,11 +18,12 @@ ghost use Rattle.lines.specs.Line.{wroteOf, wroteNumber, wroteCount};
 ghost use Rattle.pages.specs.Page.{pageOf, filledOf, filledNumber, filledCount};
 ghost use Rattle.abi.specs.Abi.{version, entryOf, channelWords, comparisonWords, foundNumber, foundWords};
 use channels::Channel;
+use panel::Shared;
 use panel::Side;
 use roots::Search;
 use streams::Found;
 
-pub const VERSION: u32 = 3;
+pub const VERSION: u32 = 4;
 
 // The ABI's own number.
 #[no_mangle]
@@ -87,22 +88,24 @@ pub extern "C" fn warpsorrel_root(sigma: i64, trials: u32, out: &mut [u64; 4]) -
     }
 }
 
-// ---- floats: a report's kind is a record's, 1 deep, 2 surface (its pressure is not read), 3 missing (no float is read)
+// ---- floats: a report's kind is a record's, 1 or 17 deep, 2 or 18 surface (its pressure is not read), 3 or 19 missing (no float is read). Its probe's number
+// stands beside it and is taken with either of its kinds; 0 is no number
 
 // A channel: 0 or its refusal; out gets the grid numbers, the density and the bulk modulus, and the remarks of salinity, temperature and pressure (1
-// below its grid point, 2 on it, 3 above it); eight noughts if refused.
+// below its grid point, 2 on it, 3 above it); eight noughts if refused. The probe's number makes no difference.
 #[no_mangle]
 pub extern "C" fn warpsorrel_channel(
     kind: u32,
+    probe: u16,
     salinity: f32,
     temperature: f32,
     pressure: f32,
     out: &mut [i64; 8],
 ) -> u32
-    ensures { λ r. ⌜ r ≡ channelNumber (channelOf (entryOf kind salinity temperature pressure)) ⌝ }
-    ensures { λ r. ⌜ now (out .exit) ≡ sets (now (out .entry)) 0 (channelWords (channelOf (entryOf kind salinity temperature pressure))) ⌝ }
+    ensures { λ r. ⌜ r ≡ channelNumber (channelOf (entryOf kind probe salinity temperature pressure)) ⌝ }
+    ensures { λ r. ⌜ now (out .exit) ≡ sets (now (out .entry)) 0 (channelWords (channelOf (entryOf kind probe salinity temperature pressure))) ⌝ }
 {
-    let channel = panel::answer(abi::entry_of(kind, salinity, temperature, pressure));
+    let channel = panel::answer(abi::entry_of(kind, probe, salinity, temperature, pressure));
     match channel {
         Channel::Accepted {
             at,
@@ -141,11 +144,11 @@ pub extern "C" fn warpsorrel_channel(
 }
 
 // The words of two sides and their needle.
-fn put_needle(left: Side, right: Side, out: &mut [i64; 3]) -> u32
-    ensures { λ r. ⌜ r ≡ needleNumber (needleBetween left right) ⌝ }
-    ensures { λ r. ⌜ now (out .exit) ≡ sets (now (out .entry)) 0 (comparisonWords (comparedFrom left right)) ⌝ }
+fn put_needle(left: Side, right: Side, shared: Shared, out: &mut [i64; 3]) -> u32
+    ensures { λ r. ⌜ r ≡ needleNumber (needleBetween left right shared) ⌝ }
+    ensures { λ r. ⌜ now (out .exit) ≡ sets (now (out .entry)) 0 (comparisonWords (comparedFrom left right shared)) ⌝ }
 {
-    let needle = panel::needle(left, right);
+    let needle = panel::needle(left, right, shared);
     let l = left.channel;
     let r = right.channel;
     out[0] = l.density() as i64;
@@ -154,38 +157,49 @@ fn put_needle(left: Side, right: Side, out: &mut [i64; 3]) -> u32
     needle.number()
 }
 
-// The needle of two reports: 0 or its refusal; out gets the left density, the right density (0 where refused), each at its own pressure, and the
-// needle, of both under the greater of the two.
+// The needle of two reports: 0 or its refusal, 32 if both are accepted and have the same number other than 0; out gets the left density, the right density (0
+// where refused), each at its own pressure, and the needle, of both under the greater of the two.
 #[no_mangle]
 pub extern "C" fn warpsorrel_needle(
     left_kind: u32,
+    left_probe: u16,
     left_salinity: f32,
     left_temperature: f32,
     left_pressure: f32,
     right_kind: u32,
+    right_probe: u16,
     right_salinity: f32,
     right_temperature: f32,
     right_pressure: f32,
     out: &mut [i64; 3],
 ) -> u32
-    ensures { λ r. ⌜ r ≡ needleNumber (comparisonOf (entryOf «left_kind» «left_salinity» «left_temperature» «left_pressure») (entryOf «right_kind» «right_salinity» «right_temperature» «right_pressure») .needle) ⌝ }
-    ensures { λ r. ⌜ now (out .exit) ≡ sets (now (out .entry)) 0 (comparisonWords (comparisonOf (entryOf «left_kind» «left_salinity» «left_temperature» «left_pressure») (entryOf «right_kind» «right_salinity» «right_temperature» «right_pressure»))) ⌝ }
+    ensures { λ r. ⌜ r ≡ needleNumber (comparisonOf (entryOf «left_kind» «left_probe» «left_salinity» «left_temperature» «left_pressure») (entryOf «right_kind» «right_probe» «right_salinity» «right_temperature» «right_pressure») .needle) ⌝ }
+    ensures { λ r. ⌜ now (out .exit) ≡ sets (now (out .entry)) 0 (comparisonWords (comparisonOf (entryOf «left_kind» «left_probe» «left_salinity» «left_temperature» «left_pressure») (entryOf «right_kind» «right_probe» «right_salinity» «right_temperature» «right_pressure»))) ⌝ }
 {
-    let left = abi::entry_of(left_kind, left_salinity, left_temperature, left_pressure);
+    let left = abi::entry_of(
+        left_kind,
+        left_probe,
+        left_salinity,
+        left_temperature,
+        left_pressure,
+    );
     let right = abi::entry_of(
         right_kind,
+        right_probe,
         right_salinity,
         right_temperature,
         right_pressure,
     );
+    let shared = panel::shares(left, right);
     let l = panel::entered(left);
     let r = panel::entered(right);
     let a = panel::beside(l, r);
     let b = panel::beside(r, l);
-    put_needle(a, b, out)
+    put_needle(a, b, shared, out)
 }
 
-// How much carbon dioxide a report's water will hold: 0 or its refusal; out gets ln K0 in millionths, 0 if refused. The pressure is not read.
+// How much carbon dioxide a report's water will hold: 0 or its refusal; out gets ln K0 in millionths, 0 if refused. The pressure is not read, and no number is
+// taken: it makes no difference.
 #[no_mangle]
 pub extern "C" fn warpsorrel_co2(
     kind: u32,
@@ -194,10 +208,10 @@ pub extern "C" fn warpsorrel_co2(
     pressure: f32,
     out: &mut i64,
 ) -> u32
-    ensures { λ r. ⌜ r ≡ solubilityNumber (solubilityOf (entryOf kind salinity temperature pressure)) ⌝ }
-    ensures { λ r. ⌜ now (out .exit) ≡ solubilityValue (solubilityOf (entryOf kind salinity temperature pressure)) ⌝ }
+    ensures { λ r. ⌜ r ≡ solubilityNumber (solubilityOf (entryOf kind 0 salinity temperature pressure)) ⌝ }
+    ensures { λ r. ⌜ now (out .exit) ≡ solubilityValue (solubilityOf (entryOf kind 0 salinity temperature pressure)) ⌝ }
 {
-    let answer = carbon::answer(abi::entry_of(kind, salinity, temperature, pressure));
+    let answer = carbon::answer(abi::entry_of(kind, 0, salinity, temperature, pressure));
     *out = answer.value();
     answer.number()
 }
@@ -248,23 +262,32 @@ pub extern "C" fn warpsorrel_pair(stream: &[u8], before: usize, out: &mut [i64; 
 pub extern "C" fn warpsorrel_line(
     number: u32,
     left_kind: u32,
+    left_probe: u16,
     left_salinity: f32,
     left_temperature: f32,
     left_pressure: f32,
     right_kind: u32,
+    right_probe: u16,
     right_salinity: f32,
     right_temperature: f32,
     right_pressure: f32,
     out: &mut [u8],
     count: &mut usize,
 ) -> u32
-    ensures { λ r. ⌜ r ≡ wroteNumber (wroteOf (length (now (out .entry))) number (entryOf «left_kind» «left_salinity» «left_temperature» «left_pressure») (entryOf «right_kind» «right_salinity» «right_temperature» «right_pressure»)) ⌝ }
-    ensures { λ r. ⌜ now (count .exit) ≡ wroteCount (wroteOf (length (now (out .entry))) number (entryOf «left_kind» «left_salinity» «left_temperature» «left_pressure») (entryOf «right_kind» «right_salinity» «right_temperature» «right_pressure»)) ⌝ }
-    ensures { λ r. ⌜ now (out .exit) ≡ written (now (count .exit)) (lineOf number (entryOf «left_kind» «left_salinity» «left_temperature» «left_pressure») (entryOf «right_kind» «right_salinity» «right_temperature» «right_pressure»)) (now (out .entry)) ⌝ }
+    ensures { λ r. ⌜ r ≡ wroteNumber (wroteOf (length (now (out .entry))) number (entryOf «left_kind» «left_probe» «left_salinity» «left_temperature» «left_pressure») (entryOf «right_kind» «right_probe» «right_salinity» «right_temperature» «right_pressure»)) ⌝ }
+    ensures { λ r. ⌜ now (count .exit) ≡ wroteCount (wroteOf (length (now (out .entry))) number (entryOf «left_kind» «left_probe» «left_salinity» «left_temperature» «left_pressure») (entryOf «right_kind» «right_probe» «right_salinity» «right_temperature» «right_pressure»)) ⌝ }
+    ensures { λ r. ⌜ now (out .exit) ≡ written (now (count .exit)) (lineOf number (entryOf «left_kind» «left_probe» «left_salinity» «left_temperature» «left_pressure») (entryOf «right_kind» «right_probe» «right_salinity» «right_temperature» «right_pressure»)) (now (out .entry)) ⌝ }
 {
-    let left = abi::entry_of(left_kind, left_salinity, left_temperature, left_pressure);
+    let left = abi::entry_of(
+        left_kind,
+        left_probe,
+        left_salinity,
+        left_temperature,
+        left_pressure,
+    );
     let right = abi::entry_of(
         right_kind,
+        right_probe,
         right_salinity,
         right_temperature,
         right_pressure,

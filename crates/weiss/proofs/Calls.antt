@@ -24,8 +24,8 @@ use Rattle.weiss.specs.Equation.{equation30, LnWithin, CarbonWithin, Hel
 use Rattle.weiss.proofs.Promises.{within-two, within-kept}
 
 held : (e : Frac) → CarbonWithin e → HeldWithin e
-held e w report r z j k g is hj hk =
-    let v = known-is report r z g is in
+held e w probe report r z j k g is hj hk =
+    let v = known-is probe report r z g is in
     let σ = plus (gridNo 1000 (r .salinity)) in
     let n = kelvin (gridNo 1000 (r .temperature)) in
     record {
@@ -45,9 +45,9 @@ held-within-kept = held (over 540 1_000_000_000) within-kept
 -- one call of `answer` with a report of the reading r, whose answer is the value z
 pub told-within-two :
     (κs : Lifetimes.Lfts 0) (a : _) (c : _) (s : _) → answer.Learnt κs a c s →
-    (z : ℤ) → Known z ≡ c → (report : Report) (r : Reading) → a .0 ≡ Entry.Reading report → givenOf report ≡ some r →
+    (z : ℤ) → Known z ≡ c → (probe : ℕ) (report : Report) (r : Reading) → a .0 ≡ Entry.Reading probe report → givenOf report ≡ some r →
     (j k : ℕ) → lnTerms ≤ j → restTerms ≤ k → Held (over 2 1_000_000) j k r z
-told-within-two κs a c s told z is report r e g j k hj hk = held-within-two report r z j k g (is ∙ told ∙ ap solubilityOf e) hj hk
+told-within-two κs a c s told z is probe report r e g j k hj hk = held-within-two probe report r z j k g (is ∙ told ∙ ap solubilityOf e) hj hk
 
 -- SPEC's sea water of salinity 35 at 5 °C, from its floats
 pub salt-held : (j k : ℕ) → lnTerms ≤ j → restTerms ≤ k → LnWithin (over 2 1_000_000) (neg 2_953_995) (equation30 j k 35_000 278_150)
@@ -55,4 +55,4 @@ unfolding gridNo ofBits
 salt-held j k hj hk =
     let s = ofBits binary32 0x420c_0000 in
     let t = ofBits binary32 0x40a0_0000 in
-    held-within-two (Report.Surface s t) (surfaceOf s t) (neg 2_953_995) j k refl (sym salt-holds) hj hk .near
+    held-within-two 0 (Report.Surface s t) (surfaceOf s t) (neg 2_953_995) j k refl (sym salt-holds) hj hk .near

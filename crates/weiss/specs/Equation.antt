@@ -78,5 +78,5 @@ pub record Held (e : Frac) (j k : ℕ) (r : Reading) (z : ℤ) : Type 0 where
 -- of what is answered
 abbrev pub HeldWithin : Frac → Type 0
 HeldWithin e =
-    (report : Report) (r : Reading) (z : ℤ) (j k : ℕ) → givenOf report ≡ some r → Known z ≡ solubilityOf (Entry.Reading report) → lnTerms ≤ j → restTerms ≤ k →
+    (probe : ℕ) (report : Report) (r : Reading) (z : ℤ) (j k : ℕ) → givenOf report ≡ some r → Known z ≡ solubilityOf (Entry.Reading probe report) → lnTerms ≤ j → restTerms ≤ k →
     Held e j k r z

@@ -1,52 +1,55 @@
--- `abi::entry_of` meets its contract: its tests of the kind are the definition's. Assumes nothing.
-use borrow.Author.Tests.{eq-eqb, ne-eqb}
-use Rattle.abi.specs.Abi.{entryOf}
+-- `abi::entry_of` meets its contract: each arm is the definition's case of what the table says. Assumes nothing.
+use mathlib.Core.Path.{_≡_, sym, ap, _∙_}
+use borrow.Author.Needs.{needs}
+use Rattle.readings.specs.declared.Entry.{Entry}
+use Rattle.abi.specs.Abi.{entryBy, entryOf}
 use Rattle.abi.proofs.entry_of.Statement.{statement}
 use Rattle.abi.proofs.entry_of.Tie as tie
 
-returns : tie.Need-returns
+kind-of-requires : tie.Need-kind-of-requires
+kind-of-requires c κs = search needs
+
+-- what the table said is what the definition asks of it
+found : (c : tie.After-kind-of) →
+    let a = c .before .args in
+    entryBy (a .kind) (a .probe) (a .salinity) (a .temperature) (a .pressure) (c .kind-of .result) ≡ entryOf (a .kind) (a .probe) (a .salinity) (a .temperature) (a .pressure)
 unfolding entryOf
-returns c = simp (eq-eqb _ _ (c .if1 .taken))
+found c = let a = c .before .args in ap (entryBy (a .kind) (a .probe) (a .salinity) (a .temperature) (a .pressure)) (c .kind-of .ensures)
+
+enum-known-row : tie.Need-enum-known-row
+enum-known-row c = search needs
+
+report-requires : tie.Need-report-requires
+report-requires c κs = search needs
+
+enum-told : tie.Need-enum-told
+enum-told c = search needs
+
+unread-requires : tie.Need-unread-requires
+unread-requires c κs = search needs
+
+returns : tie.Need-returns
+returns c =
+    let k = c .before .before .before .before in
+    let a = k .before .args in
+    ap (Entry.Reading (a .probe)) (c .report .ensures)
+    ∙ sym (ap (entryBy (a .kind) (a .probe) (a .salinity) (a .temperature) (a .pressure)) (c .before .before .row .given .1)) ∙ found k
 
 returns-2 : tie.Need-returns-2
-unfolding entryOf
-returns-2 c = simp (ne-eqb _ _ (c .before .if1 .left), eq-eqb _ _ (c .if2 .taken))
-
-returns-3 : tie.Need-returns-3
-unfolding entryOf
-returns-3 c = simp (ne-eqb _ _ (c .before .before .if1 .left), ne-eqb _ _ (c .before .if2 .left), eq-eqb _ _ (c .if3 .taken))
-
-returns-4 : tie.Need-returns-4
-unfolding entryOf
-returns-4 c =
-    simp (
-      ne-eqb _ _ (c .before .before .before .if1 .left),
-      ne-eqb _ _ (c .before .before .if2 .left),
-      ne-eqb _ _ (c .before .if3 .left),
-      eq-eqb _ _ (c .if4 .taken),
-    )
-
-returns-5 : tie.Need-returns-5
-unfolding entryOf
-returns-5 c =
-    simp (
-      ne-eqb _ _ (c .before .before .before .before .if1 .left),
-      ne-eqb _ _ (c .before .before .before .if2 .left),
-      ne-eqb _ _ (c .before .before .if3 .left),
-      ne-eqb _ _ (c .before .if4 .left),
-      eq-eqb _ _ (c .if5 .taken),
-    )
-
-returns-6 : tie.Need-returns-6
-unfolding entryOf
-returns-6 c =
-    simp (
-      ne-eqb _ _ (c .before .before .before .before .if1 .left),
-      ne-eqb _ _ (c .before .before .before .if2 .left),
-      ne-eqb _ _ (c .before .before .if3 .left),
-      ne-eqb _ _ (c .before .if4 .left),
-      ne-eqb _ _ (c .if5 .left),
-    )
+returns-2 c =
+    let k = c .before .before .before in
+    let a = k .before .args in
+    ap Entry.Refused (c .unread .ensures)
+    ∙ sym (ap (entryBy (a .kind) (a .probe) (a .salinity) (a .temperature) (a .pressure)) (c .before .enum-told .given .1)) ∙ found k
 
 pub entry-of-spec : {M : Type 1} → statement M
-entry-of-spec = tie.close (tie.spec returns returns-2 returns-3 returns-4 returns-5 returns-6)
+entry-of-spec =
+    tie.close
+    (tie.spec
+    kind-of-requires
+    enum-known-row
+    report-requires
+    enum-told
+    unread-requires
+    returns
+    returns-2)

@@ -3,6 +3,7 @@
 use mathlib.Core.Path.{_≡_, refl, ap, ap₂, sym, _∙_, subst}
 use mathlib.Core.Logic.{inl, inr}
 use mathlib.Core.List.{[], _∷_}
+use Prim.Native.Nat.{ℕ}
 use native.Mathlib.Omega.{arith}
 use types.Run.{OneOf}
 use denote.Enum.Declared.{tagOf}
@@ -35,18 +36,18 @@ enum-known-shallow : tie.Need-enum-known-shallow
 enum-known-shallow c = search needs
 
 -- without its pressure a report is one at the surface or missing, so that what is not at the surface is missing
-missing : (report : Report) → OneOf (0 ∷ 2 ∷ []) (tagOf variants.the-type (unpressed report)) → Refused Refusal.Missing ≡ solubilityOf (Entry.Reading report)
+missing : (n : ℕ) (report : Report) → OneOf (0 ∷ 2 ∷ []) (tagOf variants.the-type (unpressed report)) → Refused Refusal.Missing ≡ solubilityOf (Entry.Reading n report)
 unfolding solubilityOf checkedFor
-missing (Report.Deep s t p) (inl e) = absurd (omega (arith, e))
-missing (Report.Deep s t p) (inr e) = absurd (omega (arith, e))
-missing (Report.Surface s t) (inl e) = absurd (omega (arith, e))
-missing (Report.Surface s t) (inr e) = absurd (omega (arith, e))
-missing Report.Missing a = refl
+missing n (Report.Deep s t p) (inl e) = absurd (omega (arith, e))
+missing n (Report.Deep s t p) (inr e) = absurd (omega (arith, e))
+missing n (Report.Surface s t) (inl e) = absurd (omega (arith, e))
+missing n (Report.Surface s t) (inr e) = absurd (omega (arith, e))
+missing n Report.Missing a = refl
 
 returns : tie.Need-returns
 returns c =
     let u = c .before in
-    missing (u .before .before .entry .given .0 .0) (subst (λ (r : Report). OneOf (0 ∷ 2 ∷ []) (tagOf variants.the-type r)) (u .unpressed .ensures) (c .match2 .keys2))
+    missing (u .before .before .entry .given .0 .0) (u .before .before .entry .given .0 .1 .0) (subst (λ (r : Report). OneOf (0 ∷ 2 ∷ []) (tagOf variants.the-type r)) (u .unpressed .ensures) (c .match2 .keys2))
     ∙ sym (ap solubilityOf (u .before .before .entry .given .1))
 
 check-surface-requires : tie.Need-check-surface-requires
@@ -57,7 +58,7 @@ enum-known-at c = search needs
 
 -- the report, and what the check of it without its pressure found
 abbrev report : tie.After-check-surface → Report
-report c = c .before .before .before .before .before .before .entry .given .0 .0
+report c = c .before .before .before .before .before .before .entry .given .0 .1 .0
 
 checked-is : (c : tie.After-check-surface) → c .check-surface .result ≡ checkedFor Purpose.Carbon (unpressed (report c))
 checked-is c = c .check-surface .ensures ∙ ap (checkedFor Purpose.Carbon) (sym (c .before .before .shallow .given .1) ∙ c .before .before .before .before .unpressed .ensures)

@@ -13,7 +13,7 @@ use Rattle.warpsorrel.proofs.Words.{remark-word}
 use Rattle.warpsorrel.proofs.warpsorrel_channel.Statement.{statement}
 use Rattle.warpsorrel.proofs.warpsorrel_channel.Tie as tie
 
-channel-is : (c : tie.After-answer) → let a = c .before .before .args in c .answer .result ≡ channelOf (entryOf (a .kind) (a .salinity) (a .temperature) (a .pressure))
+channel-is : (c : tie.After-answer) → let a = c .before .before .args in c .answer .result ≡ channelOf (entryOf (a .kind) (a .probe) (a .salinity) (a .temperature) (a .pressure))
 channel-is c = c .answer .ensures ∙ ap channelOf (c .before .entry-of .ensures)
 
 entry-of-requires : tie.Need-entry-of-requires
