@@ -59,12 +59,14 @@ class Sheet(Trial):
         self.compare("README.md: two-depths.txt", stream, block("README.md", command.rstrip()).removeprefix(command).encode())
 
     def night_shift(self):
-        """Probes with numbers: what examples/README.md shows of them."""
+        """Probes with numbers: what README.md and examples/README.md show of them."""
         status, stream, said = self.make_stream(b"", SAMPLE.with_name("night-shift.txt"))
         self.holds("night-shift.txt", (0, ""), (status, said))
         self.compare("night-shift.txt", stream, self.start().printed(stream))
         shown = re.findall(r"^    (pair left right needle\n(?:    .*\n)+)", SAMPLE.with_name("README.md").read_text("utf-8"), re.M)
         self.compare("examples/README.md: night-shift.txt", stream, "".join(shown).replace("    ", "").encode())
+        command = "$ ./run examples/night-shift.txt\n"
+        self.compare("README.md: night-shift.txt", stream, block("README.md", command.rstrip()).removeprefix(command).encode())
         self.holds("night-shift.txt: one probe in both sockets", True, b" R32\n" in model.page(stream))
 
     def texts(self):
