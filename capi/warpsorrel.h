@@ -35,7 +35,7 @@ extern "C" {
 uint32_t warpsorrel_version(void);
 
 /* ---- Refusals; 0 is none. Of several the first of 6, 7, 8, 1, 2, 3, 4, 5 is answered. 30 and 31 are for a line or a page that is not written,
- * and there 30 comes first. 32 is a needle's alone, where neither side is refused: one probe is in both sockets. */
+ * and there 30 comes first. 32 is a needle's alone, where neither side is refused: both have one number, as a probe in both sockets has. */
 #define WARPSORREL_REFUSED_MISSING 1u      /* missing */
 #define WARPSORREL_REFUSED_NOT_FINITE 2u   /* a NaN or an infinity */
 #define WARPSORREL_REFUSED_SALINITY 3u     /* the salinity is not from 0 to 42 */

@@ -27,6 +27,12 @@ pub six-kinds :
 unfolding entryOf
 six-kinds n s t p = (refl, (refl, (refl, (refl, (refl, refl)))))
 
+-- so that a report's two kinds mean the same to a call
+pub either-kind :
+    (n : ℕ) (s t p : Float) → (entryOf 17 n s t p ≡ entryOf 1 n s t p) × ((entryOf 18 n s t p ≡ entryOf 2 n s t p) × (entryOf 19 n s t p ≡ entryOf 3 n s t p))
+unfolding entryOf
+either-kind n s t p = (refl, (refl, refl))
+
 pub unread-kinds :
     (n : ℕ) (s t p : Float) →
     (entryOf 65542 n s t p ≡ Entry.Refused Unread.Cut) × ((entryOf 65543 n s t p ≡ Entry.Refused Unread.Kind) × ((entryOf 65544 n s t p ≡ Entry.Refused Unread.Length)

@@ -11,6 +11,7 @@ use borrow.Author.Tests.{eqb-true, eqb-false, eq-eqb, ne-eqb}
 use Rattle.refusals.specs.declared.Refusal.{Refusal}
 use Rattle.refusals.specs.Number.{numberOf}
 use Rattle.refusals.proofs.Numbers.{number-range}
+use Rattle.readings.specs.declared.Report.{Report}
 use Rattle.readings.specs.declared.Entry.{Entry}
 use Rattle.channels.specs.declared.Channel.{Channel}
 use Rattle.channels.specs.declared.Needle.{Needle}
@@ -20,7 +21,7 @@ use Rattle.panel.specs.declared.Shared.{Shared}
 use Rattle.panel.specs.Panel.{channelOf, probeOf, sharedOf, needleOf, comparisonOf}
 use Rattle.panel.specs.Probes.{Shares, Accepts, Stops, left-refused, right-refused, one-probe, OnlyStopped, StopsRefuse, StillShown, SwapTurns, SwapKeeps}
 use Rattle.panel.proofs.Needles.{swapped}
-use Rattle.panel.proofs.Samples.{freshOf, saltOf, fresh-of-is, salt-of-is, fresh-is, salt-is, needle-is}
+use Rattle.panel.proofs.Samples.{freshOf, saltOf, fresh-of-is, salt-of-is, fresh-is, salt-is, nothing-is, needle-is}
 use Rattle.panel.proofs.paired.Reads as paired
 
 -- ---- what `sharedOf` answers
@@ -108,16 +109,35 @@ swap-keeps l r e =
     let w = by-probe refl (only-stopped l r 32 e) in
     stops-refuse r l 32 (one-probe (w .0 .1) (w .0 .0) (shares-either l r (w .1)))
 
--- ---- not empty: fresh and salt water, of one probe and of two
-pub one-probe-real :
-    ((comparisonOf (freshOf 17) (saltOf 17)) .needle ≡ Needle.Refused 32)
-    × ((channelDensity ((comparisonOf (freshOf 17) (saltOf 17)) .left) ≡ 999_967) × (channelDensity ((comparisonOf (freshOf 17) (saltOf 17)) .right) ≡ 1_027_675))
-unfolding comparisonOf
+-- ---- not empty: fresh and salt water, of one probe and of two, and a missing one
+fresh-accepted : (n : ℕ) → Accepts (freshOf n)
+fresh-accepted n = record { point = _; density = _; bulk = _; remarks = _; is = fresh-of-is n }
+
+salt-accepted : (n : ℕ) → Accepts (saltOf n)
+salt-accepted n = record { point = _; density = _; bulk = _; remarks = _; is = salt-of-is n }
+
+pub one-probe-real : (comparisonOf (freshOf 17) (saltOf 17)) .needle ≡ Needle.Refused 32
 one-probe-real =
-    let l : Accepts (freshOf 17) = record { point = _; density = _; bulk = _; remarks = _; is = fresh-of-is 17 } in
-    let r : Accepts (saltOf 17) = record { point = _; density = _; bulk = _; remarks = _; is = salt-of-is 17 } in
     let s : Shares (freshOf 17) (saltOf 17) = record { number = 17; own = λ e. absurd (omega (arith, e)); left-report = _; left-is = refl; right-report = _; right-is = refl } in
-    (stops-refuse (freshOf 17) (saltOf 17) 32 (one-probe l r s), (ap channelDensity (fresh-of-is 17), ap channelDensity (salt-of-is 17)))
+    stops-refuse (freshOf 17) (saltOf 17) 32 (one-probe (fresh-accepted 17) (salt-accepted 17) s)
+
+pub real-shown :
+    (channelDensity ((comparisonOf (freshOf 17) (saltOf 17)) .left) ≡ 999_967) × (channelDensity ((comparisonOf (freshOf 17) (saltOf 17)) .right) ≡ 1_027_675)
+real-shown =
+    let w = still-shown (freshOf 17) (saltOf 17) one-probe-real .1 in
+    (ap channelDensity (w .0 ∙ fresh-of-is 17), ap channelDensity (w .1 ∙ salt-of-is 17))
+
+pub real-swapped : (comparisonOf (saltOf 17) (freshOf 17)) .needle ≡ Needle.Refused 32
+real-swapped = swap-keeps (freshOf 17) (saltOf 17) one-probe-real
+
+-- a side's own refusal first, whatever the numbers
+pub real-stopped :
+    ((comparisonOf (Entry.Reading 17 Report.Missing) (saltOf 17)) .needle ≡ Needle.Refused 101)
+    × ((comparisonOf (saltOf 17) (Entry.Reading 17 Report.Missing)) .needle ≡ Needle.Refused 201)
+real-stopped = (
+  stops-refuse (Entry.Reading 17 Report.Missing) (saltOf 17) 101 (left-refused Refusal.Missing (nothing-is 17)),
+  stops-refuse (saltOf 17) (Entry.Reading 17 Report.Missing) 201 (right-refused Refusal.Missing (salt-accepted 17) (nothing-is 17)),
+)
 
 pub two-probes-real : (comparisonOf (freshOf 17) (saltOf 18)) .needle ≡ Needle.Value (pos 27_708)
 unfolding comparisonOf

@@ -58,12 +58,18 @@ unfolding channelOf checkedFor
 nothing-is n = refl
 
 -- salinity 35 at 5 °C and 1,000 bar
+abbrev pub deepOf : ℕ → Entry
+deepOf n = Entry.Reading n (Report.Deep (floatOf 0x00 0x00 0x0C 0x42) (floatOf 0x00 0x00 0xA0 0x40) (floatOf 0x00 0x00 0x7A 0x44))
+
 abbrev pub deep : Entry
-deep = Entry.Reading 0 (Report.Deep (floatOf 0x00 0x00 0x0C 0x42) (floatOf 0x00 0x00 0xA0 0x40) (floatOf 0x00 0x00 0x7A 0x44))
+deep = deepOf 0
+
+pub deep-of-is : (n : ℕ) → channelOf (deepOf n) ≡ Channel.Accepted (record { sigma = pos 35_000; tau = pos 5_000; pi = pos 100_000 }) 1_069_489 2_557_749 exact
+unfolding ofBits channelOf checkedFor placedFor placeOf inside gridNo remarkOf wateredOf waterOf rangeOf scaled rowValue rootFrom rootOf Dw Ds Dr Dss Kw Ks Kr Aw As Ar Bw Bs rowsAt rootAt surface K0 A B bulk hundredths mass net gain density shown bulkOf shownOf shownAt modulusAt
+deep-of-is n = refl
 
 pub deep-is : channelOf deep ≡ Channel.Accepted (record { sigma = pos 35_000; tau = pos 5_000; pi = pos 100_000 }) 1_069_489 2_557_749 exact
-unfolding ofBits channelOf checkedFor placedFor placeOf inside gridNo remarkOf wateredOf waterOf rangeOf scaled rowValue rootFrom rootOf Dw Ds Dr Dss Kw Ks Kr Aw As Ar Bw Bs rowsAt rootAt surface K0 A B bulk hundredths mass net gain density shown bulkOf shownOf shownAt modulusAt
-deep-is = refl
+deep-is = deep-of-is 0
 
 -- the nearest floats of 34.999 and -0.1 °C, which lie above and below, at 1,000 bar
 abbrev pub off : Entry

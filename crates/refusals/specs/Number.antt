@@ -23,7 +23,7 @@ numberOf Length = 8
 numberOf Room = 30
 -- the pair number is 0 or exceeds 9,999
 numberOf PairNumber = 31
--- both readings are of one probe: the same number, other than 0
+-- both readings have the same probe number, other than 0
 numberOf SameProbe = 32
 
 -- the three that a record is refused by, when it gives no reading: 6, 7 and 8

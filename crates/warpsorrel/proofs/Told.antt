@@ -1,9 +1,11 @@
 -- What the C call for a needle tells is what `panel::paired` tells of the same two reports, so that all that is pledged of its needle holds of the
 -- third word. `Learnt` is a contract as the checker reads it off the source. Assumes nothing.
 use Prim.Native.Nat.{ℕ}
+use mathlib.Core.List.{List}
 use mathlib.Core.Path.{_≡_, refl, sym, ap, ap₂, _∙_}
 use contract.Lifetimes
 use lib.Seq.{sets}
+use lib.IntN.{ℤ}
 use lib.Ieee.{Float}
 use Rattle.kinds.specs.declared.Kind.{Kind}
 use Rattle.kinds.specs.declared.Kind.the-variants.{Known, Unknown}
@@ -12,9 +14,13 @@ use Rattle.channels.specs.declared.Channel.{Channel}
 use Rattle.channels.specs.declared.Comparison.{Comparison}
 use Rattle.channels.specs.Numbers.{channelNumber, needleNumber}
 use Rattle.panel.specs.Panel.{channelOf, comparisonOf}
+use Rattle.panel.proofs.Answers as panel
 use Rattle.panel.proofs.answer.Reads as panel-answer
 use Rattle.panel.proofs.paired.Reads as paired
 use Rattle.abi.specs.Abi.{entryBy, entryOf, channelWords, comparisonWords}
+use Rattle.cells.specs.Cells.{rowText, written}
+use Rattle.texts.specs.Text.{lineOf, lineCells}
+use Rattle.texts.proofs.Row.{line-told}
 use Rattle.roots.specs.Search.{searchOf, searchNumber, searchWords}
 use Rattle.roots.specs.declared.Search.{Search}
 use Rattle.roots.proofs.search_at.Reads as search-at
@@ -23,6 +29,7 @@ use Rattle.carbon.proofs.Answers as carbon
 use Rattle.carbon.proofs.answer.Reads as answer
 use Rattle.warpsorrel.proofs.warpsorrel_channel.Reads as channel
 use Rattle.warpsorrel.proofs.warpsorrel_co2.Reads as co2
+use Rattle.warpsorrel.proofs.warpsorrel_line.Reads as line
 use Rattle.warpsorrel.proofs.warpsorrel_needle.Reads as needle
 use Rattle.warpsorrel.proofs.warpsorrel_root.Reads as root
 
@@ -44,6 +51,35 @@ pub channel-told :
 channel-told κs a r s told κs′ b c t answered e =
     let f = sym (answered ∙ ap channelOf e) in
     (told .0 ∙ ap channelNumber f, told .1 ∙ ap (λ (x : Channel). sets (a .1 .1 .1 .1 .1 .0 .now) 0 (channelWords x)) f)
+
+-- and its probe's number makes no difference: two calls with one kind and the same floats answer alike
+channel-unread : (kind n n′ : ℕ) (s t p : Float) → channelOf (entryOf kind n s t p) ≡ channelOf (entryOf kind n′ s t p)
+unfolding entryOf
+channel-unread kind n n′ s t p = go (kindOf kind)
+  where
+    go : (k : Kind) → channelOf (entryBy kind n s t p k) ≡ channelOf (entryBy kind n′ s t p k)
+    go (Known row) = panel.number-unread n n′ (reportOf (row .holds) s t p)
+    go Unknown = refl
+
+pub channel-of-any-probe :
+    (κs κs′ : Lifetimes.Lfts 1) (a b : _) (r r′ : _) (s s′ : _) → channel.Learnt κs a r s → channel.Learnt κs′ b r′ s′ →
+    a .0 ≡ b .0 → a .1 .1 .0 ≡ b .1 .1 .0 → a .1 .1 .1 .0 ≡ b .1 .1 .1 .0 → a .1 .1 .1 .1 .0 ≡ b .1 .1 .1 .1 .0 → a .1 .1 .1 .1 .1 .0 .now ≡ b .1 .1 .1 .1 .1 .0 .now →
+    (r ≡ r′) × (s .1 .1 .1 .1 .1 .0 .now ≡ s′ .1 .1 .1 .1 .1 .0 .now)
+channel-of-any-probe κs κs′ a b r r′ s s′ one other e f g h i =
+    let d : entryOf (a .0) (b .1 .0) (a .1 .1 .0) (a .1 .1 .1 .0) (a .1 .1 .1 .1 .0) ≡ entryOf (b .0) (b .1 .0) (b .1 .1 .0) (b .1 .1 .1 .0) (b .1 .1 .1 .1 .0) = rw (e, f, g, h) in
+    let c = channel-unread (a .0) (a .1 .0) (b .1 .0) (a .1 .1 .0) (a .1 .1 .1 .0) (a .1 .1 .1 .1 .0) ∙ ap channelOf d in (
+      one .0 ∙ ap channelNumber c ∙ sym (other .0),
+      one .1 ∙ ap₂ (λ (o : List ℤ) (x : Channel). sets o 0 (channelWords x)) i c ∙ sym (other .1),
+    )
+
+-- so does the call for a line show what `panel::paired` tells of the same two reports, as a row of cells
+pub line-shown :
+    (κs : Lifetimes.Lfts 2) (a : _) (r : _) (s : _) → line.Learnt κs a r s → (κs′ : Lifetimes.Lfts 0) (b : _) (m : _) (t : _) → paired.Learnt κs′ b m t →
+    b .0 ≡ entryOf (a .1 .0) (a .1 .1 .0) (a .1 .1 .1 .0) (a .1 .1 .1 .1 .0) (a .1 .1 .1 .1 .1 .0) →
+    b .1 .0 ≡ entryOf (a .1 .1 .1 .1 .1 .1 .0) (a .1 .1 .1 .1 .1 .1 .1 .0) (a .1 .1 .1 .1 .1 .1 .1 .1 .0) (a .1 .1 .1 .1 .1 .1 .1 .1 .1 .0) (a .1 .1 .1 .1 .1 .1 .1 .1 .1 .1 .0) →
+    s .1 .1 .1 .1 .1 .1 .1 .1 .1 .1 .1 .0 .now ≡ written (s .1 .1 .1 .1 .1 .1 .1 .1 .1 .1 .1 .1 .0 .now) (rowText 32 (lineCells (a .0) (m .left) (m .right) (m .needle))) (a .1 .1 .1 .1 .1 .1 .1 .1 .1 .1 .1 .0 .now)
+line-shown κs a r s told κs′ b m t paired-told left right =
+    told .1 .1 ∙ ap (λ (x : List ℕ). written (s .1 .1 .1 .1 .1 .1 .1 .1 .1 .1 .1 .1 .0 .now) x (a .1 .1 .1 .1 .1 .1 .1 .1 .1 .1 .1 .0 .now)) (sym (ap₂ (lineOf (a .0)) left right) ∙ line-told (a .0) κs′ b m t paired-told)
 
 -- the number is handed on and makes no difference to ln K0
 number-unread : (kind n n′ : ℕ) (s t p : Float) → solubilityOf (entryOf kind n s t p) ≡ solubilityOf (entryOf kind n′ s t p)
