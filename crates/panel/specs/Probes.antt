@@ -14,7 +14,7 @@ use Rattle.channels.specs.declared.Needle.{Needle}
 use Rattle.channels.specs.declared.Comparison.{Comparison}
 use Rattle.panel.specs.Panel.{channelOf}
 
--- two readings of one probe: the same number, other than 0
+-- two readings with one probe number, other than 0: as far as the numbers tell, one probe on both sides
 pub record Shares (l r : Entry) : Type 0 where
   pub number : ℕ
   pub own : ¬ (number ≡ 0)

@@ -7,6 +7,8 @@ use contract.Lifetimes
 use lib.Seq.{sets}
 use lib.IntN.{ℤ}
 use lib.Ieee.{Float}
+use Rattle.readings.specs.declared.Report.{Report}
+use Rattle.readings.specs.declared.Entry.{Entry}
 use Rattle.kinds.specs.declared.Kind.{Kind}
 use Rattle.kinds.specs.declared.Kind.the-variants.{Known, Unknown}
 use Rattle.kinds.specs.Kinds.{kindOf, reportOf}
@@ -52,22 +54,25 @@ channel-told κs a r s told κs′ b c t answered e =
     let f = sym (answered ∙ ap channelOf e) in
     (told .0 ∙ ap channelNumber f, told .1 ∙ ap (λ (x : Channel). sets (a .1 .1 .1 .1 .1 .0 .now) 0 (channelWords x)) f)
 
--- and its probe's number makes no difference: two calls with one kind and the same floats answer alike
-channel-unread : (kind n n′ : ℕ) (s t p : Float) → channelOf (entryOf kind n s t p) ≡ channelOf (entryOf kind n′ s t p)
+-- what does not look at a reading's number does not look at the one that a call is given
+unread :
+    {A : Type 0} (f : Entry → A) → ((n n′ : ℕ) (report : Report) → f (Entry.Reading n report) ≡ f (Entry.Reading n′ report)) →
+    (kind n n′ : ℕ) (s t p : Float) → f (entryOf kind n s t p) ≡ f (entryOf kind n′ s t p)
 unfolding entryOf
-channel-unread kind n n′ s t p = go (kindOf kind)
+unread f same kind n n′ s t p = go (kindOf kind)
   where
-    go : (k : Kind) → channelOf (entryBy kind n s t p k) ≡ channelOf (entryBy kind n′ s t p k)
-    go (Known row) = panel.number-unread n n′ (reportOf (row .holds) s t p)
+    go : (k : Kind) → f (entryBy kind n s t p k) ≡ f (entryBy kind n′ s t p k)
+    go (Known row) = same n n′ (reportOf (row .holds) s t p)
     go Unknown = refl
 
+-- so a channel: two calls with one kind and the same floats answer alike, whatever the numbers
 pub channel-of-any-probe :
     (κs κs′ : Lifetimes.Lfts 1) (a b : _) (r r′ : _) (s s′ : _) → channel.Learnt κs a r s → channel.Learnt κs′ b r′ s′ →
     a .0 ≡ b .0 → a .1 .1 .0 ≡ b .1 .1 .0 → a .1 .1 .1 .0 ≡ b .1 .1 .1 .0 → a .1 .1 .1 .1 .0 ≡ b .1 .1 .1 .1 .0 → a .1 .1 .1 .1 .1 .0 .now ≡ b .1 .1 .1 .1 .1 .0 .now →
     (r ≡ r′) × (s .1 .1 .1 .1 .1 .0 .now ≡ s′ .1 .1 .1 .1 .1 .0 .now)
 channel-of-any-probe κs κs′ a b r r′ s s′ one other e f g h i =
     let d : entryOf (a .0) (b .1 .0) (a .1 .1 .0) (a .1 .1 .1 .0) (a .1 .1 .1 .1 .0) ≡ entryOf (b .0) (b .1 .0) (b .1 .1 .0) (b .1 .1 .1 .0) (b .1 .1 .1 .1 .0) = rw (e, f, g, h) in
-    let c = channel-unread (a .0) (a .1 .0) (b .1 .0) (a .1 .1 .0) (a .1 .1 .1 .0) (a .1 .1 .1 .1 .0) ∙ ap channelOf d in (
+    let c = unread channelOf panel.number-unread (a .0) (a .1 .0) (b .1 .0) (a .1 .1 .0) (a .1 .1 .1 .0) (a .1 .1 .1 .1 .0) ∙ ap channelOf d in (
       one .0 ∙ ap channelNumber c ∙ sym (other .0),
       one .1 ∙ ap₂ (λ (o : List ℤ) (x : Channel). sets o 0 (channelWords x)) i c ∙ sym (other .1),
     )
@@ -81,21 +86,12 @@ pub line-shown :
 line-shown κs a r s told κs′ b m t paired-told left right =
     told .1 .1 ∙ ap (λ (x : List ℕ). written (s .1 .1 .1 .1 .1 .1 .1 .1 .1 .1 .1 .1 .0 .now) x (a .1 .1 .1 .1 .1 .1 .1 .1 .1 .1 .1 .0 .now)) (sym (ap₂ (lineOf (a .0)) left right) ∙ line-told (a .0) κs′ b m t paired-told)
 
--- the number is handed on and makes no difference to ln K0
-number-unread : (kind n n′ : ℕ) (s t p : Float) → solubilityOf (entryOf kind n s t p) ≡ solubilityOf (entryOf kind n′ s t p)
-unfolding entryOf
-number-unread kind n n′ s t p = go (kindOf kind)
-  where
-    go : (k : Kind) → solubilityOf (entryBy kind n s t p k) ≡ solubilityOf (entryBy kind n′ s t p k)
-    go (Known row) = carbon.number-unread n n′ (reportOf (row .holds) s t p)
-    go Unknown = refl
-
 -- and the call for carbon dioxide what `carbon::answer` tells of the same report, whatever its probe's number
 pub co2-told :
     (κs : Lifetimes.Lfts 1) (a : _) (r : _) (s : _) → co2.Learnt κs a r s → (κs′ : Lifetimes.Lfts 0) (b : _) (g : _) (t : _) → answer.Learnt κs′ b g t →
     (n : ℕ) → b .0 ≡ entryOf (a .0) n (a .1 .0) (a .1 .1 .0) (a .1 .1 .1 .0) → (r ≡ solubilityNumber g) × (s .1 .1 .1 .1 .0 .now ≡ solubilityValue g)
 co2-told κs a r s told κs′ b g t answered n e =
-    let f = sym (answered ∙ ap solubilityOf e ∙ number-unread (a .0) n 0 (a .1 .0) (a .1 .1 .0) (a .1 .1 .1 .0)) in
+    let f = sym (answered ∙ ap solubilityOf e ∙ unread solubilityOf carbon.number-unread (a .0) n 0 (a .1 .0) (a .1 .1 .0) (a .1 .1 .1 .0)) in
     (told .0 ∙ ap solubilityNumber f, told .1 ∙ ap solubilityValue f)
 
 -- and the call for a root what `roots::search_at` tells of the same salinity and trials
