@@ -1,4 +1,6 @@
 // What the C ABI's numbers stand for: a reading from its kind, number and floats, and an answer as a row of words.
+#![tactic(auto)]
+
 ghost use Rattle.std.specs.Prelude.{◌≡◌};
 ghost use Rattle.std.proofs.lemmas.List.Edits.{sets};
 ghost use Rattle.streams.specs.declared.Found.TheVariants.{Nothing};

@@ -1,4 +1,6 @@
 // How much carbon dioxide a water will hold: ln K0 of Weiss (1974), in millionths.
+#![tactic(auto)]
+
 ghost use Rattle.std.specs.Prelude.{◌≡◌, ◌+◌, ◌≤◌, nat_abs};
 ghost use Rattle.whole.specs.Arith.{plus, minus, scaled, row_value};
 ghost use Rattle.carbon.specs.Weiss.{rest_terms, odd, ln_t, by_cold, by_log, salts, kelvin, ln_k0};
@@ -40,9 +42,9 @@ const LN3: u64 = 109_861_228_850;
 
 // The odd series in x/y, four terms, in 10^-11.
 fn odd_series(x: u64, y: u64) -> u64
-    requires fact_1 { x ≤ 26_850 }
-    requires fact_2 { 573_150 ≤ y }
-    requires fact_3 { y ≤ 613_150 }
+    requires x_most { x ≤ 26_850 }
+    requires y_least { 573_150 ≤ y }
+    requires y_most { y ≤ 613_150 }
     ensures { result ≡ odd x y rest_terms }
 {
     let a = x * x;
@@ -56,8 +58,8 @@ fn odd_series(x: u64, y: u64) -> u64
 
 // ln(T/100) for T of n thousandths of a kelvin, from ln 3.
 fn ln_t(n: u64) -> u64
-    requires fact_1 { 273_150 ≤ n }
-    requires fact_2 { n ≤ 313_150 }
+    requires n_least { 273_150 ≤ n }
+    requires n_most { n ≤ 313_150 }
     ensures { result ≡ ln_t n }
 {
     let x = if n < 300_000 {
@@ -74,8 +76,8 @@ fn ln_t(n: u64) -> u64
 
 // The two terms of the temperature alone.
 fn by_warmth(n: u64) -> u64
-    requires fact_1 { 273_150 ≤ n }
-    requires fact_2 { n ≤ 313_150 }
+    requires n_least { 273_150 ≤ n }
+    requires n_most { n ≤ 313_150 }
     ensures { result ≡ by_cold n + by_log n }
 {
     934_517_000_000_000_000 / n + 233_585 * ln_t(n) / 10_000
@@ -83,8 +85,8 @@ fn by_warmth(n: u64) -> u64
 
 // What the salinity adds.
 fn by_salt(sigma: i64, n: i64) -> i64
-    requires fact_1 { nat_abs sigma ≤ 42_000 }
-    requires fact_2 { nat_abs n ≤ 313_150 }
+    requires sigma_small { nat_abs sigma ≤ 42_000 }
+    requires n_small { nat_abs n ≤ 313_150 }
     ensures { result ≡ scaled (row_value salts n) sigma }
 {
     let inner = -236_560_000_000 + whole::scaled(47_036_000_000, n);
@@ -94,10 +96,10 @@ fn by_salt(sigma: i64, n: i64) -> i64
 
 // ln K0 at a point of the grid that is not below 0 °C. The last scaled product, by 1, is the rounding.
 fn ln_k0(sigma: i64, tau: i64) -> i64
-    requires fact_1 { minus sigma ≡ 0 }
-    requires fact_2 { plus sigma ≤ 42_000 }
-    requires fact_3 { minus tau ≡ 0 }
-    requires fact_4 { plus tau ≤ 40_000 }
+    requires sigma_whole { minus sigma ≡ 0 }
+    requires sigma_most { plus sigma ≤ 42_000 }
+    requires tau_whole { minus tau ≡ 0 }
+    requires tau_most { plus tau ≤ 40_000 }
     ensures { result ≡ ln_k0 (plus sigma) (kelvin tau) }
 {
     let n = whole::unsigned(tau) + 273_150;

@@ -1,4 +1,6 @@
 // What a channel and a needle answer.
+#![tactic(auto)]
+
 ghost use Rattle.std.specs.Prelude.{◌≡◌};
 ghost use Rattle.channels.specs.Numbers.{channel_number, channel_density, channel_bulk, needle_number, needle_value};
 

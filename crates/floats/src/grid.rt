@@ -30,8 +30,8 @@ fn digits(n: u32, e: u32) -> i64
 // The place of w / 2^s. A shift rounds down, also below 0, so that lo is tested on w and hi on -w. Half steps rounded down,
 // and one more, halved: a half goes up. The same two tests of the number itself tell on which side of it w / 2^s lies.
 fn place_at(w: i64, s: u32, lo: i32, hi: i32) -> Place
-    requires fact_1 { nat_abs w < 2 ^ 44 }
-    requires fact_2 { s < 64 }
+    requires w_small { nat_abs w < 2 ^ 44 }
+    requires shift { s < 64 }
     ensures { result ≡ place_at lo hi w (2 ^ s) }
 {
     let floor = w >> s;
@@ -55,10 +55,10 @@ fn place_at(w: i64, s: u32, lo: i32, hi: i32) -> Place
 // field e tells. From 150 on x is an infinity, or 2^23 and more, beyond both ends. Below 88 the power is 2^63 and more, where
 // the product, under 2^44, rounds as over 2^62.
 pub fn place(x: f32, lo: i32, hi: i32, k: u32) -> Place
-    requires fact_1 { 1 ≤ k }
-    requires fact_2 { k ≤ 2 ^ 20 }
-    requires fact_3 { nat_abs lo < 2 ^ 23 }
-    requires fact_4 { nat_abs hi < 2 ^ 23 }
+    requires k_least { 1 ≤ k }
+    requires k_most { k ≤ 2 ^ 20 }
+    requires lo_small { nat_abs lo < 2 ^ 23 }
+    requires hi_small { nat_abs hi < 2 ^ 23 }
     ensures { result ≡ place_of (range lo hi k) x }
 {
     if x != x {

@@ -1,5 +1,7 @@
 // What is said of one float, whatever it measures: its place on a grid, the float for the recorder, a float from its four
 // bytes. The inside of the engine: what `grid::place` asks for keeps its words from overflowing, and the calls above it see to it.
+#![tactic(auto)]
+
 ghost use Rattle.std.specs.Prelude.{◌≡◌};
 ghost use Rattle.floats.specs.Grid.{remark_number};
 ghost use Rattle.floats.specs.Recorder.{recorder_of};

@@ -1,4 +1,6 @@
 // Whether a water of the grid is frozen: the freezing point of UNESCO's paper 44, in whole numbers.
+#![tactic(auto)]
+
 ghost use Rattle.std.specs.Prelude.{◌≡◌, pos};
 ghost use Rattle.whole.specs.Arith.{neg, plus};
 ghost use Rattle.whole.specs.Order.{Lies};
@@ -13,8 +15,8 @@ pub enum Phase {
 
 // The freezing point of a salinity under a pressure, in 10^-9 degrees.
 pub fn point_at(sigma: i64, pi: i64) -> i64
-    requires fact_1 { Lies (pos 0) (pos 42_000) sigma }
-    requires fact_2 { Lies (pos 0) (pos 100_000) pi }
+    requires salinity { Lies (pos 0) (pos 42_000) sigma }
+    requires pressure { Lies (pos 0) (pos 100_000) pi }
     ensures { result ≡ ice_at (plus sigma) (plus pi) }
 {
     let w = whole::root_at(sigma);
@@ -26,9 +28,9 @@ pub fn point_at(sigma: i64, pi: i64) -> i64
 // Whether a water is colder than its freezing point. No freezing point lies above the line that is tried first, so that a water on it or above it, as nearly
 // all are, needs no root.
 pub fn phase_at(sigma: i64, tau: i64, pi: i64) -> Phase
-    requires fact_1 { Lies (pos 0) (pos 42_000) sigma }
-    requires fact_2 { Lies (neg 2_000) (pos 40_000) tau }
-    requires fact_3 { Lies (pos 0) (pos 100_000) pi }
+    requires salinity { Lies (pos 0) (pos 42_000) sigma }
+    requires temperature { Lies (neg 2_000) (pos 40_000) tau }
+    requires pressure { Lies (pos 0) (pos 100_000) pi }
     ensures { result ≡ phase_of (plus sigma) tau (plus pi) }
 {
     let warmth = tau * 1_000_000;

@@ -1,4 +1,6 @@
 // A channel from what stands in it, and the needle from two of them and their probes' numbers.
+#![tactic(auto)]
+
 ghost use Rattle.std.specs.Prelude.{◌≡◌};
 ghost use Rattle.panel.specs.Panel.{entered, channel_of, probe_of, shared_of, comparison_of};
 ghost use Rattle.panel.specs.Pairing.{pressure_of, common_of, side_of, beside_of, needle_between};

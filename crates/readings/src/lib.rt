@@ -1,4 +1,6 @@
 // From a probe's report to the grid numbers of its reading and their remarks, or to the first refusal that applies.
+#![tactic(auto)]
+
 ghost use Rattle.std.specs.Prelude.{◌≡◌};
 ghost use Rattle.std.proofs.Math.Option.{some};
 ghost use Rattle.readings.specs.declared.Purpose.{Purpose};

@@ -1,4 +1,6 @@
 // Why something is refused.
+#![tactic(auto)]
+
 ghost use Rattle.std.specs.Prelude.{◌≡◌};
 ghost use Rattle.refusals.specs.Number.{number_of, refusal_of};
 

@@ -1,4 +1,6 @@
 // The root of a salinity, and the line of its search after so many trials, as the service shop works it out on paper (docs/ROOT.md).
+#![tactic(auto)]
+
 ghost use Rattle.std.specs.Prelude.{◌≡◌};
 ghost use Rattle.roots.specs.Search.{search_of};
 

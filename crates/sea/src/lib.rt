@@ -1,4 +1,6 @@
 // Density and bulk modulus of sea water from grid numbers.
+#![tactic(auto)]
+
 ghost use Rattle.std.specs.Prelude.{◌≡◌, pos, ◌+ℤ◌};
 ghost use Rattle.whole.specs.Arith.{neg, plus, scaled};
 ghost use Rattle.sea.specs.declared.Sounding.TheVariants.{Known};
@@ -131,9 +133,9 @@ fn rows_at(tau: i64) -> Rows
 
 // The surface density D.
 fn surface(r: Rows, sigma: i64, w: i64) -> i64
-    requires fact_1 { Sizes r }
-    requires fact_2 { Lies (pos 0) (pos 42_000) sigma }
-    requires fact_3 { Lies (pos 0) (pos 64_807) w }
+    requires rows { Sizes r }
+    requires salinity { Lies (pos 0) (pos 42_000) sigma }
+    requires root { Lies (pos 0) (pos 64_807) w }
     ensures { result ≡ the.surface r (plus sigma) (plus w) }
 {
     let rooted = whole::step(r.Ds, r.Dr, w);
@@ -150,9 +152,9 @@ fn salted(x: i64, y: i64, z: i64, sigma: i64, w: i64) -> i64
 
 // What the row values and the root make at one salinity.
 fn combined(r: Rows, sigma: i64, w: i64) -> Parcel
-    requires fact_1 { Sizes r }
-    requires fact_2 { Lies (pos 0) (pos 42_000) sigma }
-    requires fact_3 { Lies (pos 0) (pos 64_807) w }
+    requires rows { Sizes r }
+    requires salinity { Lies (pos 0) (pos 42_000) sigma }
+    requires root { Lies (pos 0) (pos 64_807) w }
     ensures { result ≡ the.parcel_of r (plus sigma) (plus w) }
 {
     let d = surface(r, sigma, w);
@@ -164,8 +166,8 @@ fn combined(r: Rows, sigma: i64, w: i64) -> Parcel
 
 // The water of one salinity and temperature, before any pressure.
 fn parcel_at(sigma: i64, tau: i64) -> Parcel
-    requires fact_1 { Lies (pos 0) (pos 42_000) sigma }
-    requires fact_2 { Lies (neg 2_000) (pos 40_000) tau }
+    requires salinity { Lies (pos 0) (pos 42_000) sigma }
+    requires temperature { Lies (neg 2_000) (pos 40_000) tau }
     ensures { result ≡ the.parcel_at (plus sigma) tau }
 {
     let rows = rows_at(tau);
@@ -183,8 +185,8 @@ fn bulk(x: Parcel, pi: i64) -> i64
 
 // The shown density, from D and K in units of 10^-9.
 fn compressed(d: i64, k: i64, pi: i64) -> u32
-    requires fact_1 { Lies (pos 0) (pos 100_000) pi }
-    requires fact_2 { Ranges d k (plus pi) }
+    requires pressure { Lies (pos 0) (pos 100_000) pi }
+    requires ranges { Ranges d k (plus pi) }
     ensures { result ≡ the.shown d k (plus pi) }
 {
     let p = 1000 * whole::unsigned(pi);
@@ -195,9 +197,9 @@ fn compressed(d: i64, k: i64, pi: i64) -> u32
 
 // Density and bulk modulus of a water under a pressure.
 fn pressed(x: Parcel, pi: i64) -> State
-    requires fact_1 { Lies (pos 0) (pos 100_000) pi }
-    requires fact_2 { Stiff x pi }
-    requires fact_3 { Ranges x.d (the.bulk x.k0 x.a x.b (plus pi)) (plus pi) }
+    requires pressure { Lies (pos 0) (pos 100_000) pi }
+    requires stiff { Stiff x pi }
+    requires ranges { Ranges x.d (the.bulk x.k0 x.a x.b (plus pi)) (plus pi) }
     ensures { result ≡ the.pressed_of x (plus pi) }
 {
     let k = bulk(x, pi);
@@ -208,8 +210,8 @@ fn pressed(x: Parcel, pi: i64) -> State
 
 // The water of a point of the grid, and its density under the pressure `deep`: the rows are worked out once, and at its own pressure nothing twice.
 fn sounded(sigma: i64, tau: i64, pi: i64, deep: i64) -> Sounding
-    requires fact_1 { OnTable sigma tau pi }
-    requires fact_2 { Lies (pos 0) (pos 100_000) deep }
+    requires on_table { OnTable sigma tau pi }
+    requires deep { Lies (pos 0) (pos 100_000) deep }
     ensures { result ≡ Known (the.shown_at (plus sigma) tau (plus pi)) (the.modulus_at (plus sigma) tau (plus pi)) (the.shown_at (plus sigma) tau (plus deep)) }
 {
     let water = parcel_at(sigma, tau);

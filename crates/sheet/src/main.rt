@@ -1,4 +1,6 @@
 // Reads a stream of records from standard input and prints its page.
+#![tactic(auto)]
+
 use libc::{STDIN_FILENO, STDOUT_FILENO};
 use pages::Filled;
 

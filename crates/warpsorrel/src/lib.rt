@@ -1,4 +1,6 @@
 // The panel for programs in other languages: the C ABI. Every function answers every argument.
+#![tactic(auto)]
+
 ghost use Rattle.std.specs.Prelude.{◌≡◌, length};
 ghost use Rattle.std.proofs.lemmas.List.Edits.{sets};
 ghost use Rattle.floats.specs.Recorder.{recorder_of};
@@ -62,8 +64,8 @@ pub extern "C" fn warpsorrel_bulk(sigma: i64, tau: i64, pi: i64) -> u32
 // trial bit, the rest and the root so far, four noughts if refused.
 #[unsafe(no_mangle)]
 pub extern "C" fn warpsorrel_root(sigma: i64, trials: u32, out: &mut [u64; 4]) -> u32
-    ensures value { result ≡ search_number (search_of sigma trials) }
-    ensures out_after { out.new ≡ sets out.old 0 (search_words (search_of sigma trials)) }
+    ensures answer { result ≡ search_number (search_of sigma trials) }
+    ensures numbers { out.new ≡ sets out.old 0 (search_words (search_of sigma trials)) }
 {
     let found = roots::search_at(sigma, trials);
     match found {
@@ -101,8 +103,8 @@ pub extern "C" fn warpsorrel_channel(
     pressure: f32,
     out: &mut [i64; 8],
 ) -> u32
-    ensures value { result ≡ channel_number (channel_of (entry_of kind probe salinity temperature pressure)) }
-    ensures out_after { out.new ≡ sets out.old 0 (channel_words (channel_of (entry_of kind probe salinity temperature pressure))) }
+    ensures answer { result ≡ channel_number (channel_of (entry_of kind probe salinity temperature pressure)) }
+    ensures numbers { out.new ≡ sets out.old 0 (channel_words (channel_of (entry_of kind probe salinity temperature pressure))) }
 {
     let channel = panel::answer(abi::entry_of(kind, probe, salinity, temperature, pressure));
     match channel {
@@ -144,8 +146,8 @@ pub extern "C" fn warpsorrel_channel(
 
 // The words of two sides and their needle.
 fn put_needle(left: Side, right: Side, shared: Shared, out: &mut [i64; 3]) -> u32
-    ensures value { result ≡ needle_number (needle_between left right shared) }
-    ensures out_after { out.new ≡ sets out.old 0 (comparison_words (compared_from left right shared)) }
+    ensures answer { result ≡ needle_number (needle_between left right shared) }
+    ensures numbers { out.new ≡ sets out.old 0 (comparison_words (compared_from left right shared)) }
 {
     let needle = panel::needle(left, right, shared);
     let l = left.channel;
@@ -172,8 +174,8 @@ pub extern "C" fn warpsorrel_needle(
     right_pressure: f32,
     out: &mut [i64; 3],
 ) -> u32
-    ensures value { result ≡ needle_number (comparison_of (entry_of left_kind left_probe left_salinity left_temperature left_pressure) (entry_of right_kind right_probe right_salinity right_temperature right_pressure)).needle }
-    ensures out_after { out.new ≡ sets out.old 0 (comparison_words (comparison_of (entry_of left_kind left_probe left_salinity left_temperature left_pressure) (entry_of right_kind right_probe right_salinity right_temperature right_pressure))) }
+    ensures answer { result ≡ needle_number (comparison_of (entry_of left_kind left_probe left_salinity left_temperature left_pressure) (entry_of right_kind right_probe right_salinity right_temperature right_pressure)).needle }
+    ensures numbers { out.new ≡ sets out.old 0 (comparison_words (comparison_of (entry_of left_kind left_probe left_salinity left_temperature left_pressure) (entry_of right_kind right_probe right_salinity right_temperature right_pressure))) }
 {
     let left = abi::entry_of(
         left_kind,
@@ -207,8 +209,8 @@ pub extern "C" fn warpsorrel_co2(
     pressure: f32,
     out: &mut i64,
 ) -> u32
-    ensures value { result ≡ solubility_number (solubility_of (entry_of kind 0 salinity temperature pressure)) }
-    ensures out_after { out.new ≡ solubility_value (solubility_of (entry_of kind 0 salinity temperature pressure)) }
+    ensures answer { result ≡ solubility_number (solubility_of (entry_of kind 0 salinity temperature pressure)) }
+    ensures value { out.new ≡ solubility_value (solubility_of (entry_of kind 0 salinity temperature pressure)) }
 {
     let answer = carbon::answer(abi::entry_of(kind, 0, salinity, temperature, pressure));
     *out = answer.value();
@@ -237,8 +239,8 @@ pub extern "C" fn warpsorrel_pairs(stream: &[u8]) -> usize
 // refusal and value of the needle; 0 and eight noughts if the stream has no such pair.
 #[unsafe(no_mangle)]
 pub extern "C" fn warpsorrel_pair(stream: &[u8], before: usize, out: &mut [i64; 8]) -> u32
-    ensures value { result ≡ found_number (nth_of (pairs stream.now) before) }
-    ensures out_after { out.new ≡ sets out.old 0 (found_words (nth_of (pairs stream.now) before)) }
+    ensures answer { result ≡ found_number (nth_of (pairs stream.now) before) }
+    ensures numbers { out.new ≡ sets out.old 0 (found_words (nth_of (pairs stream.now) before)) }
 {
     let found = streams::nth(stream, before);
     match found {
@@ -273,9 +275,9 @@ pub extern "C" fn warpsorrel_line(
     out: &mut [u8],
     count: &mut usize,
 ) -> u32
-    ensures value { result ≡ wrote_number (wrote_of (length out.old) number (entry_of left_kind left_probe left_salinity left_temperature left_pressure) (entry_of right_kind right_probe right_salinity right_temperature right_pressure)) }
-    ensures count_after { count.new ≡ wrote_count (wrote_of (length out.old) number (entry_of left_kind left_probe left_salinity left_temperature left_pressure) (entry_of right_kind right_probe right_salinity right_temperature right_pressure)) }
-    ensures out_after { out.new ≡ written count.new (line_of number (entry_of left_kind left_probe left_salinity left_temperature left_pressure) (entry_of right_kind right_probe right_salinity right_temperature right_pressure)) out.old }
+    ensures answer { result ≡ wrote_number (wrote_of (length out.old) number (entry_of left_kind left_probe left_salinity left_temperature left_pressure) (entry_of right_kind right_probe right_salinity right_temperature right_pressure)) }
+    ensures count { count.new ≡ wrote_count (wrote_of (length out.old) number (entry_of left_kind left_probe left_salinity left_temperature left_pressure) (entry_of right_kind right_probe right_salinity right_temperature right_pressure)) }
+    ensures bytes { out.new ≡ written count.new (line_of number (entry_of left_kind left_probe left_salinity left_temperature left_pressure) (entry_of right_kind right_probe right_salinity right_temperature right_pressure)) out.old }
 {
     let left = abi::entry_of(
         left_kind,
@@ -300,9 +302,9 @@ pub extern "C" fn warpsorrel_line(
 // out is untouched.
 #[unsafe(no_mangle)]
 pub extern "C" fn warpsorrel_page(stream: &[u8], out: &mut [u8], count: &mut usize) -> u32
-    ensures value { result ≡ filled_number (filled_of (length out.old) stream.now) }
-    ensures count_after { count.new ≡ filled_count (filled_of (length out.old) stream.now) }
-    ensures out_after { out.new ≡ written count.new (page_of stream.now) out.old }
+    ensures answer { result ≡ filled_number (filled_of (length out.old) stream.now) }
+    ensures count { count.new ≡ filled_count (filled_of (length out.old) stream.now) }
+    ensures bytes { out.new ≡ written count.new (page_of stream.now) out.old }
 {
     let filled = pages::write_page(stream, out);
     *count = filled.count();

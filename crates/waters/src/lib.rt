@@ -1,4 +1,6 @@
 // The answer for grid numbers.
+#![tactic(auto)]
+
 ghost use Rattle.std.specs.Prelude.{◌≡◌};
 ghost use Rattle.waters.specs.Numbers.{water_number, water_density, water_bulk};
 

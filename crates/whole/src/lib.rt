@@ -1,5 +1,7 @@
 // Whole-number arithmetic: the scaled product, a row's value, the root. The inside of the engine: what each
 // function asks for keeps its words from overflowing, and the calls above it see to it.
+#![tactic(auto)]
+
 ghost use Rattle.std.specs.Prelude.{◌≡◌, ℕ, ◌+◌, ◌*◌, ◌<◌, ◌≤◌, ◌^◌, drop};
 ghost use lib.IntN.{pos, ◌+ℤ◌, nat_abs};
 ghost use Rattle.whole.specs.Arith as the;
@@ -19,9 +21,9 @@ pub fn scaled(h: i64, x: i64) -> i64
 
 // c plus the scaled product of h by x.
 pub fn step(c: i64, h: i64, x: i64) -> i64
-    requires fact_1 { nat_abs c ≤ 46_000_000_000_000 }
-    requires fact_2 { nat_abs h ≤ 46_000_000_000_000 }
-    requires fact_3 { nat_abs x ≤ 100_000 }
+    requires c_small { nat_abs c ≤ 46_000_000_000_000 }
+    requires h_small { nat_abs h ≤ 46_000_000_000_000 }
+    requires x_small { nat_abs x ≤ 100_000 }
     ensures { result ≡ c +ℤ the.scaled h x }
 {
     c + scaled(h, x)
@@ -29,8 +31,8 @@ pub fn step(c: i64, h: i64, x: i64) -> i64
 
 // The value at t of a row of six coefficients, lowest power first, a shorter row with noughts past its end.
 pub fn row_value(row: [i64; 6], t: i64) -> i64
-    requires fact_1 { nat_abs t ≤ 100_000 }
-    requires fact_2 { ((k : ℕ) → nat_abs (the.row_value (drop k row) t) ≤ 46_000_000_000_000) }
+    requires t_small { nat_abs t ≤ 100_000 }
+    requires partial_small { ((k : ℕ) → nat_abs (the.row_value (drop k row) t) ≤ 46_000_000_000_000) }
     ensures { result ≡ the.row_value row t }
 {
     let mut h: i64 = 0;

@@ -8,28 +8,25 @@ use lib.Pow.{shl_exact}
 use lib.Dec.{lit<}
 use Rattle.whole.specs.Paper.{pairs_of, begun}
 use Rattle.whole.proofs.Lines.{pairs_within}
-use Rattle.whole.proofs.Trial.first.Statement.{statement}
-use Rattle.whole.proofs.Trial.first.Tie as tie
+use Rattle.whole.proofs.Trial.first.Goals.{Start}
+use Rattle.whole.proofs.Trial.first.Goals as goal
 
-few : (c : tie.Start) → (65 - count_leading_zeros 64 c.args.n) / 2 ≤ 31
+few : (c : Start) → (65 - count_leading_zeros 64 c.args.n) / 2 ≤ 31
 unfolding pairs_of
 few c = pairs_within c.args.n 31 (omega (arith, c.requires)) c.requires
 
-sub-pairs : tie.Need-overflow-sub-pairs
-sub-pairs c = omega (arith, leading_le 64 c.args.n)
+pub overflow_sub-pairs : goal.overflow_sub-pairs
+overflow_sub-pairs c = omega (arith, leading_le 64 c.args.n)
 
-cast-bit : tie.Need-overflow-cast-bit
-cast-bit c = search rules
+pub overflow_cast-bit : goal.overflow_cast-bit
+overflow_cast-bit c = search rules
 
-shl-bit : tie.Need-overflow-shl-bit
-shl-bit c = omega (arith, few c)
+pub overflow_shl-bit-2 : goal.overflow_shl-bit-2
+overflow_shl-bit-2 c = omega (arith, few c)
 
-returns : tie.Need-returns
+pub returns : goal.returns
 unfolding begun pairs_of
 returns c =
     let k = (65 - count_leading_zeros 64 c.args.n) / 2 in
     let e : (k * 2) % 2 ^ 32 ≡ k * 2 = omega (arith, few c) in
     rw (e, shl_exact 1 (k * 2) 64 (lit< tt) (omega (arith, few c)))
-
-pub first_spec : {M : Type 1} → statement M
-first_spec = tie.close (tie.spec sub-pairs cast-bit shl-bit returns)

@@ -1,0 +1,11 @@
+-- `whole::signed` meets its contract: a number below 2⁶³ is its own signed word. Assumes nothing.
+use borrow.Author.Rules.{rules}
+use mir.Syntax.{w64}
+use mir.ValLaws.{to_z_pos}
+use Rattle.whole.proofs.signed.Goals as goal
+
+pub overflow_cast-result : goal.overflow_cast-result
+overflow_cast-result c = search rules
+
+pub returns : goal.returns
+returns c = to_z_pos w64 c.args.n c.requires
