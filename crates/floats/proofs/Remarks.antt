@@ -7,7 +7,7 @@ use native.Mathlib.Nat.{mul-le-mul_left, zero-mul}
 use native.Mathlib.Omega.{arith}
 use native.Mathlib.Decide.{dec_le}
 use lib.IntN.{ℤ, pos, ◌+ℤ◌, ◌*ℤ◌}
-use lib.Signed.{◌≤ℤ◌, ◌<ℤ◌, le_z, le_z_yes}
+use lib.Signed.{le_z, le_z_yes}
 use lib.Dec.{T, lit≤}
 use lib.Ieee.{Float, fin, up, down, binary32, of_bits}
 use Rattle.whole.specs.Arith.{plus, minus}

@@ -5,8 +5,7 @@ use mathlib.Core.Path.{◌≡◌}
 use native.Mathlib.Omega.{arith}
 use native.Mathlib.Nat.{mul-le-mul_right}
 use native.Mathlib.Decide.{dec_le}
-use lib.IntN.{ℤ, pos}
-use Rattle.whole.specs.Arith.{plus, minus, scaled, root_at}
+use Rattle.whole.specs.Arith.{plus, minus, root_at}
 use Rattle.whole.proofs.Ints.{scaled_n}
 use Rattle.whole.proofs.Roots.{Root, root_at_lem, root_at_most}
 use Rattle.freezing.specs.Ice.{salt_ice, ice_at}

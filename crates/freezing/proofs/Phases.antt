@@ -9,7 +9,7 @@ use lib.Dec.{T}
 use lib.IntN.{ℤ, pos}
 use lib.Signed.{◌≤ℤ◌, ◌<ℤ◌, le_z, le_z_yes, clash_ℤ}
 use Rattle.whole.specs.Arith.{plus, minus}
-use Rattle.whole.proofs.Ints.{more, trans, to_≤ℤ, of_≤ℤ, of_<ℤ, mul_plus, mul_minus}
+use Rattle.whole.proofs.Ints.{more, to_≤ℤ, of_≤ℤ, of_<ℤ, mul_plus, mul_minus}
 use Rattle.freezing.specs.declared.Phase.{Phase}
 use Rattle.freezing.specs.declared.Phase.TheVariants.{Liquid, Frozen}
 use Rattle.freezing.specs.Ice.{ice_at, warmth, phase_of}

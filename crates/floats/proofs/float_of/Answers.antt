@@ -7,8 +7,8 @@ use lib.Dec.{T, ltb, lt→ltb}
 use lib.Arith.{le→nltb}
 use lib.Ieee.{Float, nan, inf, fin, binary32, is_nan, nan_bits, div, of_bits}
 use lib.Ieee.Bits.{nan_bits_is, nan_bits_above, is_true}
-use Rattle.floats.proofs.float_of.Statement.{statement}
-use Rattle.floats.proofs.float_of.Tie as tie
+use Rattle.floats.proofs.float_of.Goals.{Start}
+use Rattle.floats.proofs.float_of.Goals as goal
 
 is_nan_lem : (x : Float) → is_nan x ≡ true → nan ≡ x
 unfolding is_nan
@@ -22,38 +22,33 @@ nan_pattern n h = is_nan_lem (of_bits binary32 n) (sym (nan_bits_is binary32 n) 
 no_nan_pattern : (n : ℕ) → n % 0x8000_0000 ≤ 0x7f80_0000 → T (not (nan_bits binary32 n))
 no_nan_pattern n h = subst (λ (b : Bool). T (not b)) (sym (nan_bits_above binary32 n)) (le→nltb 0x7f80_0000 (n % 0x8000_0000) h)
 
-abbrev pattern : tie.Start → ℕ
+abbrev pattern : Start → ℕ
 pattern c = c.args.a + 256 * (c.args.b + 256 * (c.args.c + 256 * c.args.d))
 
-mul-n : tie.Need-overflow-mul-n
-mul-n c = search rules
+pub overflow_mul-n : goal.overflow_mul-n
+overflow_mul-n c = search rules
 
-add-n : tie.Need-overflow-add-n
-add-n c = search rules
+pub overflow_add-n : goal.overflow_add-n
+overflow_add-n c = search rules
 
-mul-n-2 : tie.Need-overflow-mul-n-2
-mul-n-2 c = search rules
+pub overflow_mul-n-2 : goal.overflow_mul-n-2
+overflow_mul-n-2 c = search rules
 
-add-n-2 : tie.Need-overflow-add-n-2
-add-n-2 c = search rules
+pub overflow_add-n-2 : goal.overflow_add-n-2
+overflow_add-n-2 c = search rules
 
-mul-n-3 : tie.Need-overflow-mul-n-3
-mul-n-3 c = search rules
+pub overflow_mul-n-3 : goal.overflow_mul-n-3
+overflow_mul-n-3 c = search rules
 
-add-n-3 : tie.Need-overflow-add-n-3
-add-n-3 c = search rules
+pub overflow_add-n-3 : goal.overflow_add-n-3
+overflow_add-n-3 c = search rules
 
-float-from-bits-result : tie.Need-float-from-bits-result
-float-from-bits-result c = no_nan_pattern (pattern c.before) c.if1.false
+pub float_from_bits-result : goal.float_from_bits-result
+float_from_bits-result c = no_nan_pattern (pattern c.before) c.if-n-gt2139095040.false
 
-returns : tie.Need-returns
+pub returns-then-n-gt2139095040 : goal.returns-then-n-gt2139095040
 unfolding div of_bits
-returns c = nan_pattern (pattern c.before) c.if1.true
+returns-then-n-gt2139095040 c = nan_pattern (pattern c.before) c.if-n-gt2139095040.true
 
-returns-2 : tie.Need-returns-2
-returns-2 c = search rules
-
-pub float-of-spec : {M : Type 1} → statement M
-float-of-spec =
-    tie.close
-    (tie.spec mul-n add-n mul-n-2 add-n-2 mul-n-3 add-n-3 float-from-bits-result returns returns-2)
+pub returns-else-n-gt2139095040 : goal.returns-else-n-gt2139095040
+returns-else-n-gt2139095040 c = search rules

@@ -3,8 +3,7 @@ use mathlib.Core.Path.{◌≡◌, refl, sym}
 use mathlib.Core.Bool.{true, false}
 use lib.Ieee.{Float, nan, inf, fin, lt, neg, div, of_bits}
 use Rattle.floats.specs.Grid.{finite}
-use Rattle.floats.proofs.grid.is_finite.Statement.{statement}
-use Rattle.floats.proofs.grid.is_finite.Tie as tie
+use Rattle.floats.proofs.grid.is_finite.Goals as goal
 
 below : (x : Float) → lt (inf true) x ≡ true → lt x (inf false) ≡ finite x
 unfolding lt
@@ -20,13 +19,10 @@ above (inf true) h = refl
 above (inf false) h = h
 above (fin s m e) h = refl
 
-returns : tie.Need-returns
+pub returns-then-infinity-x : goal.returns-then-infinity-x
 unfolding div neg of_bits
-returns c = below c.before.args.x c.if1.true
+returns-then-infinity-x c = below c.args.x c.if-infinity-x.true
 
-returns-2 : tie.Need-returns-2
+pub returns-else-infinity-x : goal.returns-else-infinity-x
 unfolding div neg of_bits
-returns-2 c = above c.before.args.x c.if1.false
-
-pub is-finite-spec : {M : Type 1} → statement M
-is-finite-spec = tie.close (tie.spec returns returns-2)
+returns-else-infinity-x c = above c.args.x c.if-infinity-x.false

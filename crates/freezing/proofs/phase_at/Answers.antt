@@ -1,7 +1,7 @@
 -- `freezing::phase_at` meets its contract: on the line that is tried first or above it there is no ice, and below it the freezing point itself is asked.
 -- Assumes nothing.
 use mathlib.Core.Path.{◌≡◌, sym, ap, ap₂, ◌∙◌, subst}
-use mathlib.Core.Bool.{Bool, true, false, cond}
+use mathlib.Core.Bool.{true, false}
 use Prim.Native.Nat.{ℕ, ◌+◌, ◌*◌, ◌≤◌, ◌^◌, ◌<◌}
 use native.Mathlib.Omega.{arith}
 use native.Mathlib.Nat.{mul-le-mul, mul-le-mul_left}
@@ -12,16 +12,16 @@ use lib.Signed.{le_z, le_z_yes}
 use mir.Syntax.{w64}
 use mir.Val.{SFits}
 use mir.ValLaws.{to_z-of_z}
-use Rattle.whole.specs.Arith.{neg, plus, minus}
+use Rattle.whole.specs.Arith.{neg, plus}
 use Rattle.whole.specs.Order.{Lies}
 use Rattle.whole.proofs.Ints.{size_is, add_is, sub_is, mul_size, mul_plus, mul_minus, of_≤ℤ, below_minus, above_plus, neg_plus, neg_minus}
 use Rattle.whole.proofs.Words.{word, given, fits_size, fits_as, word_as}
 use Rattle.whole.proofs.Naturals.{natural}
-use Rattle.freezing.specs.declared.Phase.TheVariants.{Liquid, Frozen}
+use Rattle.freezing.specs.declared.Phase.TheVariants.{Liquid}
 use Rattle.freezing.specs.Ice.{ice_at, warmth, phase_of}
 use Rattle.freezing.proofs.Phases.{above_line}
-use Rattle.freezing.proofs.phase_at.Statement.{statement}
-use Rattle.freezing.proofs.phase_at.Tie as tie
+use Rattle.freezing.proofs.phase_at.Goals.{After-point_at, Start}
+use Rattle.freezing.proofs.phase_at.Goals as goal
 
 -- ---- the numbers of the test, each through its word
 product_fits : (a z : ℤ) (n m : ℕ) → nat_abs a ≤ n → nat_abs z ≤ m → n * m < 2 ^ 62 → SFits w64 (a *ℤ z)
@@ -32,33 +32,33 @@ cold_size τ l =
     omega (arith, size_is τ, below_minus (neg 2_000) τ (of_≤ℤ (neg 2_000) τ l.low), above_plus τ (pos 40_000) (of_≤ℤ τ (pos 40_000) l.high), neg_minus (pos 2_000))
 
 difference_size : (x y : ℤ) → nat_abs (x -ℤ y) ≤ nat_abs x + nat_abs y
-difference_size x y = let s = add_is x (neg_ℤ y) in omega (arith, size_is (x -ℤ y), size_is x, size_is y, s.plus-small, s.minus-small, neg_plus y, neg_minus y)
+difference_size x y = let s = add_is x (neg_ℤ y) in omega (arith, size_is (x -ℤ y), size_is x, size_is y, s.plus_small, s.minus_small, neg_plus y, neg_minus y)
 
 -- what the line has at a salinity and a pressure
 abbrev line : ℤ → ℤ → ℤ
 line σ π = neg 54_105 *ℤ σ -ℤ pos 75_300 *ℤ π
 
-module _ (b : tie.Start) where
+module _ (b : Start) where
   σ-size : nat_abs b.args.sigma ≤ 42_000
-  σ-size = (natural b.requires.0).size
+  σ-size = (natural b.requires.salinity).size
 
   π-size : nat_abs b.args.pi ≤ 100_000
-  π-size = (natural b.pre.1.1).size
+  π-size = (natural b.requires.pressure).size
 
   warmth_is : word b.args.tau *ℤ pos 1_000_000 ≡ warmth b.args.tau
-  warmth_is = ap (λ (z : ℤ). z *ℤ pos 1_000_000) (to_z-of_z w64 b.args.tau b.fits.tau)
+  warmth_is = ap (λ (z : ℤ). z *ℤ pos 1_000_000) (to_z-of_z w64 b.args.tau b.ranges.tau)
 
   warmth-fits : SFits w64 (warmth b.args.tau)
-  warmth-fits = product_fits b.args.tau (pos 1_000_000) 42_000 1_000_000 (cold_size b.args.tau b.pre.1.0) (omega arith) (omega arith)
+  warmth-fits = product_fits b.args.tau (pos 1_000_000) 42_000 1_000_000 (cold_size b.args.tau b.requires.temperature) (omega arith) (omega arith)
 
   salt_is : neg 54_105 *ℤ word b.args.sigma ≡ neg 54_105 *ℤ b.args.sigma
-  salt_is = ap (λ (z : ℤ). neg 54_105 *ℤ z) (to_z-of_z w64 b.args.sigma b.fits.sigma)
+  salt_is = ap (λ (z : ℤ). neg 54_105 *ℤ z) (to_z-of_z w64 b.args.sigma b.ranges.sigma)
 
   salt-fits : SFits w64 (neg 54_105 *ℤ b.args.sigma)
   salt-fits = product_fits (neg 54_105) b.args.sigma 54_105 42_000 (omega arith) σ-size (omega arith)
 
   deep_is : pos 75_300 *ℤ word b.args.pi ≡ pos 75_300 *ℤ b.args.pi
-  deep_is = ap (λ (z : ℤ). pos 75_300 *ℤ z) (to_z-of_z w64 b.args.pi b.fits.pi)
+  deep_is = ap (λ (z : ℤ). pos 75_300 *ℤ z) (to_z-of_z w64 b.args.pi b.ranges.pi)
 
   deep-fits : SFits w64 (pos 75_300 *ℤ b.args.pi)
   deep-fits = product_fits (pos 75_300) b.args.pi 75_300 100_000 (omega arith) π-size (omega arith)
@@ -80,17 +80,17 @@ module _ (b : tie.Start) where
         mul-le-mul_left 75_300 π-size,
       ))
 
-mul-warmth : tie.Need-overflow-mul-warmth
-mul-warmth c = fits_as (warmth_is c) (warmth-fits c)
+pub overflow_mul-warmth : goal.overflow_mul-warmth
+overflow_mul-warmth c = fits_as (warmth_is c) (warmth-fits c)
 
-mul-if1 : tie.Need-overflow-mul-if1
-mul-if1 c = fits_as (salt_is c) (salt-fits c)
+pub overflow_mul-sigma : goal.overflow_mul-sigma
+overflow_mul-sigma c = fits_as (salt_is c) (salt-fits c)
 
-mul-if1-2 : tie.Need-overflow-mul-if1-2
-mul-if1-2 c = fits_as (deep_is c) (deep-fits c)
+pub overflow_mul-pi : goal.overflow_mul-pi
+overflow_mul-pi c = fits_as (deep_is c) (deep-fits c)
 
-sub-if1 : tie.Need-overflow-sub-if1
-sub-if1 c = fits_as (line_is c) (line-fits c)
+pub overflow_sub-sigma : goal.overflow_sub-sigma
+overflow_sub-sigma c = fits_as (line_is c) (line-fits c)
 
 -- on the line or above it
 on_line : (σ τ π : ℤ) → Lies (pos 0) (pos 42_000) σ → Lies (pos 0) (pos 100_000) π → le_z (line σ π) (warmth τ) ≡ true → Liquid ≡ phase_of (plus σ) τ (plus π)
@@ -114,35 +114,30 @@ on_line σ τ π s d e =
       (natural d).whole,
     )))
 
-returns : tie.Need-returns
-returns c =
+pub returns-then-sigma-pi : goal.returns-then-sigma-pi
+returns-then-sigma-pi c =
     let b = c.before in
-    let e : le_z (line b.args.sigma b.args.pi) (warmth b.args.tau) ≡ true = rw (word_as (line_is b) (line-fits b), word_as (warmth_is b) (warmth-fits b)) at c.if1.true in
-    on_line b.args.sigma b.args.tau b.args.pi b.requires.0 b.requires.1.1 e
+    let e : le_z (line b.args.sigma b.args.pi) (warmth b.args.tau) ≡ true = rw (word_as (line_is b) (line-fits b), word_as (warmth_is b) (warmth-fits b)) at c.if-sigma-pi.true in
+    on_line b.args.sigma b.args.tau b.args.pi b.requires.salinity b.requires.pressure e
 
-point-at-requires : tie.Need-point-at-requires
-point-at-requires c κs = search rules
+pub point_at-requires : goal.point_at-requires
+point_at-requires c = search rules
 
-point_is : (c : tie.After-point-at) → word c.point_at.result ≡ ice_at (plus c.before.before.args.sigma) (plus c.before.before.args.pi)
+point_is : (c : After-point_at) → word c.point_at.result ≡ ice_at (plus c.args.sigma) (plus c.args.pi)
 point_is c =
     let b = c.before.before in
-    given c.point_at.type-inv (c.point_at.ensures ∙ ap₂ (λ (x y : ℤ). ice_at (plus x) (plus y)) (to_z-of_z w64 b.args.sigma b.ranges.sigma) (to_z-of_z w64 b.args.pi b.ranges.pi))
+    given c.point_at.type_inv (c.point_at.ensures ∙ ap₂ (λ (x y : ℤ). ice_at (plus x) (plus y)) (to_z-of_z w64 b.args.sigma b.ranges.sigma) (to_z-of_z w64 b.args.pi b.ranges.pi))
 
-returns-2 : tie.Need-returns-2
+pub returns-then-point_at-warmth : goal.returns-then-point_at-warmth
 unfolding phase_of
-returns-2 c =
+returns-then-point_at-warmth c =
     let b = c.before.before.before in
-    let e : le_z (ice_at (plus b.args.sigma) (plus b.args.pi)) (warmth b.args.tau) ≡ true = rw (point_is c.before, word_as (warmth_is b) (warmth-fits b)) at c.if2.true in
+    let e : le_z (ice_at (plus b.args.sigma) (plus b.args.pi)) (warmth b.args.tau) ≡ true = rw (point_is c.before, word_as (warmth_is b) (warmth-fits b)) at c.if-point_at-warmth.true in
     rw e
 
-returns-3 : tie.Need-returns-3
+pub returns : goal.returns
 unfolding phase_of
-returns-3 c =
+returns c =
     let b = c.before.before.before in
-    let e : le_z (ice_at (plus b.args.sigma) (plus b.args.pi)) (warmth b.args.tau) ≡ false = rw (point_is c.before, word_as (warmth_is b) (warmth-fits b)) at c.if2.false in
+    let e : le_z (ice_at (plus b.args.sigma) (plus b.args.pi)) (warmth b.args.tau) ≡ false = rw (point_is c.before, word_as (warmth_is b) (warmth-fits b)) at c.if-point_at-warmth.false in
     rw e
-
-pub phase-at-spec : {M : Type 1} → statement M
-phase-at-spec =
-    tie.close
-    (tie.spec mul-warmth mul-if1 mul-if1-2 sub-if1 returns point-at-requires returns-2 returns-3)

@@ -1,0 +1,44 @@
+-- `digits` meets its contract: by the two tests, on the exponent's field and on the sign. Assumes nothing.
+use borrow.Author.Rules.{rules}
+use borrow.Author.Tests.{eq-eqb, ne_eqb, le-leb, lt-leb}
+use mathlib.Core.Path.{◌≡◌, ap, ◌∙◌}
+use mathlib.Core.Bool.{cond}
+use Prim.Native.Nat.{◌+◌, ◌%◌, ◌<◌, ◌^◌}
+use native.Mathlib.Omega.{arith}
+use lib.IntN.{pos, neg_ℤ, ◌-ℤ◌, +ℤ_idl}
+use lib.Dec.{eqb}
+use mir.Syntax.{w64}
+use mir.ValLaws.{to_z_pos, to_z-of_z}
+use Rattle.floats.specs.Pattern.{digits_of}
+use Rattle.floats.proofs.Floors.{neg_fits}
+use Rattle.floats.proofs.grid.digits.Goals.{Joined-e-eq0, then-e-eq0, else-e-eq0}
+use Rattle.floats.proofs.grid.digits.Goals as goal
+
+m_is : (j : Joined-e-eq0) → j.if-e-eq0.m ≡ cond (eqb j.args.e 0) (j.args.n % 0x80_0000) (0x80_0000 + j.args.n % 0x80_0000)
+m_is j = elim j.if-e-eq0.branch [ then-e-eq0 w ↦ rw (eq-eqb j.args.e 0 w.if-e-eq0.true) w.m-is | else-e-eq0 w ↦ rw (ne_eqb j.args.e 0 w.if-e-eq0.false) w.m-is ]
+
+few : (j : Joined-e-eq0) → j.if-e-eq0.m < 2 ^ 63
+few j = elim j.if-e-eq0.branch [ then-e-eq0 w ↦ omega arith | else-e-eq0 w ↦ omega arith ]
+
+pub overflow_add-m : goal.overflow_add-m
+overflow_add-m c = search rules
+
+pub overflow_cast-result : goal.overflow_cast-result
+overflow_cast-result c = record { sfits = few c.before.before }
+
+pub overflow_cast-result-else-n-lt2147483648 : goal.overflow_cast-result-else-n-lt2147483648
+overflow_cast-result-else-n-lt2147483648 c = record { sfits = few c.before.before }
+
+pub overflow_sub-result : goal.overflow_sub-result
+overflow_sub-result c = rw (to_z_pos w64 _ (few c.before.before)) (neg_fits (pos c.if-e-eq0.m) (few c.before.before))
+
+pub returns-then-n-lt2147483648 : goal.returns-then-n-lt2147483648
+unfolding digits_of
+returns-then-n-lt2147483648 c = rw (lt-leb 0x8000_0000 c.args.n c.if-n-lt2147483648.true) (to_z_pos w64 _ (few c.before.before) ∙ ap pos (m_is c.before.before))
+
+pub returns-else-n-lt2147483648 : goal.returns-else-n-lt2147483648
+unfolding digits_of
+returns-else-n-lt2147483648 c =
+    let m = c.if-e-eq0.m in
+    let f = few c.before.before in
+    rw (le-leb 0x8000_0000 c.args.n c.if-n-lt2147483648.false, to_z_pos w64 _ f, to_z-of_z w64 (pos 0 -ℤ pos m) (neg_fits (pos m) f), +ℤ_idl (neg_ℤ (pos m)), m_is c.before.before)
