@@ -10,7 +10,7 @@ use readings::{Checked, Entry, Purpose, Report};
 use refusals::Refusal;
 
 // ln K0 in millionths, or why not.
-#[derive(Drop)]
+#[derive(Clone, Copy)]
 pub enum Solubility {
     Known(i64),
     Refused(Refusal),

@@ -9,7 +9,7 @@ use refusals::Refusal;
 
 // A channel's answer: the grid numbers, the shown density in 0.001 kg/m3, the bulk modulus in 0.01 bar, and on which side of its grid point each float
 // lies; or why not.
-#[derive(Drop)]
+#[derive(Clone, Copy)]
 pub enum Channel {
     Accepted {
         at: Point,
@@ -21,14 +21,14 @@ pub enum Channel {
 }
 
 // The needle: right minus left in 0.001 kg/m3; or 100 plus the left's refusal, or 200 plus the right's.
-#[derive(Drop)]
+#[derive(Clone, Copy)]
 pub enum Needle {
     Value(i64),
     Refused(u32),
 }
 
 // Two channels and their needle.
-#[derive(Drop)]
+#[derive(Clone, Copy)]
 pub struct Comparison {
     pub left: Channel,
     pub right: Channel,

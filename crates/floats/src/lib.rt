@@ -10,7 +10,7 @@ ghost use Rattle.floats.specs.Bytes.{float_of};
 pub mod grid;
 
 // On which side of its grid point a float's exact value lies.
-#[derive(Drop)]
+#[derive(Clone, Copy)]
 pub enum Remark {
     Below,
     On,
@@ -31,7 +31,7 @@ impl Remark {
 }
 
 // The answer of a range check: where a float stands on its grid, and on which side of that point it lies.
-#[derive(Drop)]
+#[derive(Clone, Copy)]
 pub enum Place {
     At(i64, Remark),
     Outside,

@@ -7,7 +7,7 @@ ghost use Rattle.whole.specs.Order.{Lies};
 ghost use Rattle.freezing.specs.Ice.{ice_at, phase_of};
 
 // The answer of check 9.
-#[derive(Drop)]
+#[derive(Clone, Copy)]
 pub enum Phase {
     Liquid,
     Frozen,

@@ -11,14 +11,14 @@ use refusals::Refusal;
 use sea::Sounding;
 
 // A channel's answer, and the density of its water under the pressure that it has in common with the other one: what the needle is made of.
-#[derive(Drop)]
+#[derive(Clone, Copy)]
 pub struct Side {
     pub channel: Channel,
     pub under: u32,
 }
 
 // Whether the two sides of a pair have the same probe's number, other than 0.
-#[derive(Drop)]
+#[derive(Clone, Copy)]
 pub enum Shared {
     Yes,
     No,

@@ -11,7 +11,7 @@ use floats::{Place, Remark, grid};
 use refusals::{Refusal, Unread};
 
 // A probe's report: salinity, temperature, pressure.
-#[derive(Drop)]
+#[derive(Clone, Copy)]
 pub enum Report {
     Deep(f32, f32, f32),
     Surface(f32, f32),
@@ -19,14 +19,14 @@ pub enum Report {
 }
 
 // What stands in a channel: a probe's number, 0 if it has none, and its report; or why its record gave none: 6, 7 or 8 and no other number.
-#[derive(Drop)]
+#[derive(Clone, Copy)]
 pub enum Entry {
     Reading { probe: u16, report: Report },
     Refused(Unread),
 }
 
 // Practical salinity, temperature in °C, pressure in bar above the atmosphere.
-#[derive(Drop)]
+#[derive(Clone, Copy)]
 pub struct Reading {
     pub salinity: f32,
     pub temperature: f32,
@@ -34,7 +34,7 @@ pub struct Reading {
 }
 
 // The grid numbers σ, τ, π.
-#[derive(Drop)]
+#[derive(Clone, Copy)]
 pub struct Point {
     pub sigma: i64,
     pub tau: i64,
@@ -42,21 +42,21 @@ pub struct Point {
 }
 
 // On which side of its grid point each float lies.
-#[derive(Drop)]
+#[derive(Clone, Copy)]
 pub struct Remarks {
     pub salinity: Remark,
     pub temperature: Remark,
     pub pressure: Remark,
 }
 
-#[derive(Drop)]
+#[derive(Clone, Copy)]
 pub enum Checked {
     Taken(Point, Remarks),
     Refused(Refusal),
 }
 
 // What a reading is wanted for: the table of ranges has a column for each.
-#[derive(Drop)]
+#[derive(Clone, Copy)]
 pub enum Purpose {
     Density,
     Carbon,
@@ -75,7 +75,7 @@ impl Purpose {
 }
 
 // The answer of check 2.
-#[derive(Drop)]
+#[derive(Clone, Copy)]
 pub enum Finite {
     Yes,
     No,

@@ -5,7 +5,7 @@ ghost use Rattle.std.specs.Prelude.{◌≡◌};
 ghost use Rattle.refusals.specs.Number.{number_of, refusal_of};
 
 // One case for each number of SPEC's list.
-#[derive(Drop)]
+#[derive(Clone, Copy)]
 pub enum Refusal {
     Missing,
     NotFinite,
@@ -41,7 +41,7 @@ impl Refusal {
 }
 
 // Why a record gave no reading: the three refusals that stand in a channel before any reading does.
-#[derive(Drop)]
+#[derive(Clone, Copy)]
 pub enum Unread {
     Cut,
     Kind,

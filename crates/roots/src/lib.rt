@@ -9,7 +9,7 @@ use sea::InRange;
 use whole::Trial;
 
 // The root, and the line of the paper; or why not.
-#[derive(Drop)]
+#[derive(Clone, Copy)]
 pub enum Search {
     Known { root: u64, line: Trial },
     Refused(Refusal),

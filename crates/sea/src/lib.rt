@@ -12,14 +12,14 @@ use refusals::Refusal;
 use waters::Water;
 
 // The answer of a range check.
-#[derive(Drop)]
+#[derive(Clone, Copy)]
 pub enum InRange {
     Inside,
     Outside,
 }
 
 // The values of the twelve rows at one temperature, in units of 10^-9.
-#[derive(Drop)]
+#[derive(Clone, Copy)]
 pub struct Rows {
     pub Dw: i64,
     pub Ds: i64,
@@ -36,7 +36,7 @@ pub struct Rows {
 }
 
 // What salinity and temperature alone decide; a pressure is put to it afterwards.
-#[derive(Drop)]
+#[derive(Clone, Copy)]
 pub struct Parcel {
     pub d: i64,
     pub k0: i64,
@@ -45,14 +45,14 @@ pub struct Parcel {
 }
 
 // A water under a pressure: the shown density in 0.001 kg/m3 and the bulk modulus in 0.01 bar.
-#[derive(Drop)]
+#[derive(Clone, Copy)]
 pub struct State {
     pub density: u32,
     pub bulk: u32,
 }
 
 // A water at its own pressure, with its density under another one; or why not.
-#[derive(Drop)]
+#[derive(Clone, Copy)]
 pub enum Sounding {
     Known { density: u32, bulk: u32, under: u32 },
     Refused(Refusal),

@@ -7,7 +7,7 @@ ghost use Rattle.waters.specs.Numbers.{water_number, water_density, water_bulk};
 use refusals::Refusal;
 
 // The shown density in 0.001 kg/m3 and the bulk modulus in 0.01 bar, or why not.
-#[derive(Drop)]
+#[derive(Clone, Copy)]
 pub enum Water {
     Known { density: u32, bulk: u32 },
     Refused(Refusal),

@@ -46,7 +46,7 @@ pub fn row_value(row: [i64; 6], t: i64) -> i64
 
 // A line of the search for a root, as it is worked out on paper (docs/ROOT.md): the root so far, the rest, the trial bit. (In this order the compiler
 // chooses the new root first, for which the next trial waits; with the bit first a needle took a hundredth longer.)
-#[derive(Drop)]
+#[derive(Clone, Copy)]
 pub struct Trial {
     pub root: u64,
     pub rest: u64,

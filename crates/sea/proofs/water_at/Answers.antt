@@ -9,8 +9,8 @@ use Rattle.refusals.specs.declared.Refusal.{Refusal}
 use Rattle.waters.specs.declared.Water.{Water}
 use Rattle.sea.specs.declared.Sounding.{Sounding}
 use Rattle.sea.specs.Water.{water_of, sounded, sounding_of}
-use Rattle.sea.proofs.water_at.Statement.{statement}
-use Rattle.sea.proofs.water_at.Tie as tie
+use Rattle.sea.proofs.water_at.Goals.{After-sounding_at-found}
+use Rattle.sea.proofs.water_at.Goals as goal
 
 apart : {d k u : ℕ} {r : Refusal} → Sounding.Known d k u ≡ Sounding.Refused r → ⊥
 apart e = let z : ◌≡◌ {A = ℕ} 0 1 = cc in omega arith
@@ -24,28 +24,24 @@ refused : (w : Water) {r : Refusal} → Sounding.Refused r ≡ sounded w w → W
 refused (Water.Known d k) e = absurd (apart (sym e))
 refused (Water.Refused r) e = cc
 
-sounding-at-requires : tie.Need-sounding-at-requires
-sounding-at-requires c κs = search rules
+pub sounding_at-found-requires : goal.sounding_at-found-requires
+sounding_at-found-requires c = search rules
 
-enum-known-found : tie.Need-enum-known-found
-enum-known-found c = search rules
+pub enum_known-found : goal.enum_known-found
+enum_known-found c = search rules
 
-enum-known-found-2 : tie.Need-enum-known-found-2
-enum-known-found-2 c = search rules
+pub enum_known-found-in-Refused-1 : goal.enum_known-found-in-Refused-1
+enum_known-found-in-Refused-1 c = search rules
 
-found_is : (c : tie.After-sounding-at) → let a = c.before.args in let w = water_of a.sigma a.tau a.pi in c.sounding-at.result ≡ sounded w w
+found_is : (c : After-sounding_at-found) → let a = c.args in let w = water_of a.sigma a.tau a.pi in c.sounding_at-found.result ≡ sounded w w
 unfolding sounding_of
 found_is c =
-    let b = c.before in
-    c.sounding-at.ensures
+    let b = c in
+    c.sounding_at-found.ensures
     ∙ rw (to_z-of_z w64 b.args.sigma b.ranges.sigma, to_z-of_z w64 b.args.tau b.ranges.tau, to_z-of_z w64 b.args.pi b.ranges.pi)
 
-returns : tie.Need-returns
-returns c = known _ (sym c.before.found.given.1 ∙ found_is c.before.before.before)
+pub returns-in-Known : goal.returns-in-Known
+returns-in-Known c = known _ (sym c.in-Known.is ∙ found_is (goal.at.returns-in-Known c).After-sounding_at-found)
 
-returns-2 : tie.Need-returns-2
-returns-2 c = refused _ (sym c.before.found2.given.1 ∙ found_is c.before.before.before)
-
-pub water-at-spec : {M : Type 1} → statement M
-water-at-spec =
-    tie.close (tie.spec sounding-at-requires enum-known-found enum-known-found-2 returns returns-2)
+pub returns-in-Refused : goal.returns-in-Refused
+returns-in-Refused c = refused _ (sym c.in-Refused.is ∙ found_is (goal.at.returns-in-Refused c).After-sounding_at-found)
