@@ -16,7 +16,7 @@ bounds-table-0 c = search rules
 
 pub row_value-requires : goal.row_value-requires
 unfolding table Dw Ds Dr Dss Kw Ks Kr Aw As Ar Bw Bs
-row_value-requires c = 
+row_value-requires c =
     let p = let b = c in row_asks 0 b.ranges.tau b.requires in record { t_small = p.0; partial_small = p.1 }
 
 pub bounds-table-1 : goal.bounds-table-1
@@ -24,7 +24,7 @@ bounds-table-1 c = search rules
 
 pub row_value-requires-2 : goal.row_value-requires-2
 unfolding table Dw Ds Dr Dss Kw Ks Kr Aw As Ar Bw Bs
-row_value-requires-2 c = 
+row_value-requires-2 c =
     let p = let b = c in row_asks 1 b.ranges.tau b.requires in record { t_small = p.0; partial_small = p.1 }
 
 pub bounds-table-2 : goal.bounds-table-2
@@ -32,7 +32,7 @@ bounds-table-2 c = search rules
 
 pub row_value-requires-3 : goal.row_value-requires-3
 unfolding table Dw Ds Dr Dss Kw Ks Kr Aw As Ar Bw Bs
-row_value-requires-3 c = 
+row_value-requires-3 c =
     let p = let b = c in row_asks 2 b.ranges.tau b.requires in record { t_small = p.0; partial_small = p.1 }
 
 pub bounds-table-3 : goal.bounds-table-3
@@ -40,7 +40,7 @@ bounds-table-3 c = search rules
 
 pub row_value-requires-4 : goal.row_value-requires-4
 unfolding table Dw Ds Dr Dss Kw Ks Kr Aw As Ar Bw Bs
-row_value-requires-4 c = 
+row_value-requires-4 c =
     let p = let b = c in row_asks 3 b.ranges.tau b.requires in record { t_small = p.0; partial_small = p.1 }
 
 pub bounds-table-4 : goal.bounds-table-4
@@ -48,7 +48,7 @@ bounds-table-4 c = search rules
 
 pub row_value-requires-5 : goal.row_value-requires-5
 unfolding table Dw Ds Dr Dss Kw Ks Kr Aw As Ar Bw Bs
-row_value-requires-5 c = 
+row_value-requires-5 c =
     let p = let b = c in row_asks 4 b.ranges.tau b.requires in record { t_small = p.0; partial_small = p.1 }
 
 pub bounds-table-5 : goal.bounds-table-5
@@ -56,7 +56,7 @@ bounds-table-5 c = search rules
 
 pub row_value-requires-6 : goal.row_value-requires-6
 unfolding table Dw Ds Dr Dss Kw Ks Kr Aw As Ar Bw Bs
-row_value-requires-6 c = 
+row_value-requires-6 c =
     let p = let b = c in row_asks 5 b.ranges.tau b.requires in record { t_small = p.0; partial_small = p.1 }
 
 pub bounds-table-6 : goal.bounds-table-6
@@ -64,7 +64,7 @@ bounds-table-6 c = search rules
 
 pub row_value-requires-7 : goal.row_value-requires-7
 unfolding table Dw Ds Dr Dss Kw Ks Kr Aw As Ar Bw Bs
-row_value-requires-7 c = 
+row_value-requires-7 c =
     let p = let b = c in row_asks 6 b.ranges.tau b.requires in record { t_small = p.0; partial_small = p.1 }
 
 pub bounds-table-7 : goal.bounds-table-7
@@ -72,7 +72,7 @@ bounds-table-7 c = search rules
 
 pub row_value-requires-8 : goal.row_value-requires-8
 unfolding table Dw Ds Dr Dss Kw Ks Kr Aw As Ar Bw Bs
-row_value-requires-8 c = 
+row_value-requires-8 c =
     let p = let b = c in row_asks 7 b.ranges.tau b.requires in record { t_small = p.0; partial_small = p.1 }
 
 pub bounds-table-8 : goal.bounds-table-8
@@ -80,7 +80,7 @@ bounds-table-8 c = search rules
 
 pub row_value-requires-9 : goal.row_value-requires-9
 unfolding table Dw Ds Dr Dss Kw Ks Kr Aw As Ar Bw Bs
-row_value-requires-9 c = 
+row_value-requires-9 c =
     let p = let b = c in row_asks 8 b.ranges.tau b.requires in record { t_small = p.0; partial_small = p.1 }
 
 pub bounds-table-9 : goal.bounds-table-9
@@ -88,7 +88,7 @@ bounds-table-9 c = search rules
 
 pub row_value-requires-10 : goal.row_value-requires-10
 unfolding table Dw Ds Dr Dss Kw Ks Kr Aw As Ar Bw Bs
-row_value-requires-10 c = 
+row_value-requires-10 c =
     let p = let b = c in row_asks 9 b.ranges.tau b.requires in record { t_small = p.0; partial_small = p.1 }
 
 pub bounds-table-10 : goal.bounds-table-10
@@ -96,7 +96,7 @@ bounds-table-10 c = search rules
 
 pub row_value-requires-11 : goal.row_value-requires-11
 unfolding table Dw Ds Dr Dss Kw Ks Kr Aw As Ar Bw Bs
-row_value-requires-11 c = 
+row_value-requires-11 c =
     let p = let b = c in row_asks 10 b.ranges.tau b.requires in record { t_small = p.0; partial_small = p.1 }
 
 pub bounds-table-11 : goal.bounds-table-11
@@ -104,7 +104,7 @@ bounds-table-11 c = search rules
 
 pub row_value-requires-12 : goal.row_value-requires-12
 unfolding table Dw Ds Dr Dss Kw Ks Kr Aw As Ar Bw Bs
-row_value-requires-12 c = 
+row_value-requires-12 c =
     let p = let b = c in row_asks 11 b.ranges.tau b.requires in record { t_small = p.0; partial_small = p.1 }
 
 is_dw : (c : After-row_value) → word c.row_value.result ≡ row_value Dw c.args.tau

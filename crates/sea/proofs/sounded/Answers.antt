@@ -46,7 +46,7 @@ pub parcel_at-water-requires : goal.parcel_at-water-requires
 parcel_at-water-requires c = let t = c.requires.on_table in record { salinity = lies_word c.ranges.sigma t.salinity; temperature = lies_word c.ranges.tau t.temperature }
 
 pub pressed-own-requires : goal.pressed-own-requires
-pressed-own-requires c = 
+pressed-own-requires c =
     let p = let b = c in asks c b.args.pi b.ranges.pi b.requires.on_table.pressure in record { pressure = p.0; stiff = p.1.0; ranges = p.1.1 }
 
 -- at its own pressure the density is the same
@@ -60,7 +60,7 @@ returns-then-deep-pi c =
     rw (own_is (goal.at.returns-then-deep-pi c).After-pressed-own, density_of σ τ (plus b.args.pi), bulk_of_lem σ τ (plus b.args.pi), same)
 
 pub pressed-other-requires : goal.pressed-other-requires
-pressed-other-requires c = 
+pressed-other-requires c =
     let p = let b = c in asks (goal.at.pressed-other-requires c).After-parcel_at-water b.args.deep b.ranges.deep b.requires.deep in record { pressure = p.0; stiff = p.1.0; ranges = p.1.1 }
 
 pub returns : goal.returns
