@@ -1,6 +1,6 @@
 -- No further term: from the definition's numbers of terms on every term of either series is 0, since the power that comes next is less than its
 -- divisor, and from there on the powers fall while the divisors rise. Assumes nothing.
-use Prim.Native.Nat.{ℕ, zero, suc, ◌+◌, ◌*◌, ◌/◌, ◌^◌, ◌≤◌, ◌<◌}
+use Prim.Native.Nat.{ℕ, zero, suc, ◌+◌, ◌*◌, ◌/◌, ◌≤◌, ◌<◌}
 use mathlib.Core.Path.{◌≡◌, refl}
 use native.Mathlib.Omega.{arith}
 use native.Mathlib.Nat.{mul-le-mul, mul-le-mul_left, mul-le-mul_right, div-add-mod, div-le_of_le-mul, div-lt_iff_lt-mul}

@@ -1,7 +1,6 @@
 -- SPEC's number and values of each answer, in numbers: what a definition and its code would have to get wrong together is held to
 -- literals here. Assumes nothing.
 use mathlib.Core.Path.{◌≡◌, refl}
-use Prim.Native.Nat.{ℕ}
 use lib.IntN.{pos}
 use Rattle.whole.specs.Arith.{neg}
 use Rattle.refusals.specs.declared.Refusal.{Refusal}
