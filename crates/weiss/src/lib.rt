@@ -1,3 +1,2 @@
 // No code: how near ln K0 is to the published equation.
 #![tactic(auto)]
-
