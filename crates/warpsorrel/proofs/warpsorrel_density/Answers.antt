@@ -1,0 +1,17 @@
+-- `warpsorrel_density` meets its contract: it hands on what `sea::water_at` answers. Assumes nothing.
+use mathlib.Core.Path.{ap, ◌∙◌}
+use borrow.Author.Rules.{rules}
+use Rattle.waters.specs.Numbers.{water_density}
+use Rattle.warpsorrel.proofs.Words.{water_is}
+use Rattle.warpsorrel.proofs.warpsorrel_density.Goals as goal
+
+pub water_at-requires : goal.water_at-requires
+water_at-requires c = search rules
+
+pub density-requires : goal.density-requires
+density-requires c = search rules
+
+pub returns : goal.returns
+returns c =
+    let b = c in
+    c.density.ensures ∙ ap water_density (c.water_at.ensures ∙ water_is b.ranges.sigma b.ranges.tau b.ranges.pi)
