@@ -1,23 +1,40 @@
 // Reads a stream of records from standard input and prints its page.
 #![tactic(auto)]
 
-use libc::{STDIN_FILENO, STDOUT_FILENO};
+ghost use Rattle.std.specs.Prelude.{◌≤◌, length};
+
 use pages::Filled;
+use std::io::Read;
 
 // The buffer holds more than the 60,000 bytes of the longest stream that has a page: what lies past it makes no difference.
-fn main() {
-    let mut input = io::large_buffer();
-    let n = io::read_full(STDIN_FILENO, &mut input);
+fn main(rt: HostRuntime) {
+    let mut input = [0u8; 65_536];
+    let n = read_whole(&mut rt.stdin(), &mut input);
     let mut out = [0u8; pages::LONGEST_PAGE];
     let filled = pages::write_page(&input[..n], &mut out);
     let Filled::Page(k) = filled else {
         return;
     };
-    show(&out, k);
+    show(&rt, &out, k);
 }
 
-fn show(out: &[u8], k: usize) {
+// Reads until the buffer is full, the input ends or a read fails, and answers how many bytes there are at its start.
+fn read_whole(from: &mut impl Read, into: &mut [u8]) -> usize
+    ensures { result ≤ length into.new }
+{
+    let mut n = 0;
+    while n < into.len() {
+        match from.read(&mut into[n..]) {
+            Ok(0) | Err(_) => break,
+            Ok(more) => n += more,
+        }
+    }
+    n
+}
+
+// A write that fails ends the page there.
+fn show(rt: &impl Print, out: &[u8], k: usize) {
     if k <= out.len() {
-        io::write_all(STDOUT_FILENO, &out[..k]);
+        let _ = rt.write_all(&out[..k]);
     }
 }
