@@ -1,9 +1,10 @@
 # Sourced after scripts/kit.sh: the compiled panel, and packages of Debian's for x86-64 where this machine is of another kind.
 
 # archive: the static library; proved and built where it is missing or older than the code or its proofs. WARPSORREL names another one to use instead.
-archive=${WARPSORREL:-target/staticlib/libwarpsorrel.a}
-if [ -z "${WARPSORREL:-}" ] && { [ ! -e "$archive" ] || [ -n "$(find crates \( -name '*.rt' -o -name '*.antt' \) -newer "$archive" -print -quit)" ]; }; then
-    rt staticlib warpsorrel >target/staticlib.log 2>&1 || { tail -n 20 target/staticlib.log >&2; exit 1; }
+archive=${WARPSORREL:-crates/warpsorrel/out/libwarpsorrel.a}
+newer() { find crates.txt crates -path 'crates/*/out' -prune -o \( -name '*.rt' -o -name '*.antt' -o -name crates.txt \) -newer "$archive" -print -quit; }
+if [ -z "${WARPSORREL:-}" ] && { [ ! -e "$archive" ] || [ -n "$(newer)" ]; }; then
+    kit_builds warpsorrel lib || exit 1
 fi
 
 # unpack ROOT PACKAGE:ARCHITECTURE..: the packages' files, under ROOT. Nothing is installed; the machine's package lists stay as they are.

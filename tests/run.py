@@ -224,10 +224,14 @@ def together(tries):
 
 
 class Copy:
-    """What ./run needs of the checkout, and a stand-in for the kit, whose check does what a script says."""
+    """What ./run needs of the checkout, and a stand-in for the kit, whose `rt run` does what a script says, in the crate's folder. As the kit's, it says
+    all on standard error; what it writes to standard output is what the program wrote that it ran on nothing."""
 
     PROGRAM = "#!/bin/sh\ncat >/dev/null\necho page\n"
-    UNCHANGED = "echo 'rt: whole proved (unchanged since it was last proved)'\necho 'rt: ok, 1 crates proved'\n"
+    UNCHANGED = """echo 'rt: nothing has changed since the last proved build, by out/sheet.stamp, so nothing is checked now'
+echo 'rt: running out/sheet; to give it other input, run that file yourself'
+echo header >&3
+"""
 
     def __init__(self, room):
         self.top, self.gate = Path(room, "copy"), None
@@ -236,7 +240,10 @@ class Copy:
             shutil.copy(ROOT / name, self.top / name)
         self.command = [self.top / "run"]
         self.env = {**os.environ, "PATH": f"{self.top / 'bin'}:{os.environ['PATH']}"}
-        self.write("bin/rt", f'#!/bin/sh\n[ "$1" = doc ] && echo "$0" && exit\nwaits() {{ read -r _ <go; }}\n. {self.top / "check"}\n')
+        self.built = self.top / "crates/sheet/out"
+        waits = f"waits() {{ read -r _ <{self.top / 'go'}; }}"
+        asked = f'[ "$1 $PWD" = "run {self.built.parent}" ] || exit 9'
+        self.write("bin/rt", f'#!/bin/sh\n[ "$1" = doc ] && echo "$0" && exit\n{waits}\n{asked}\nexec 3>&1 >&2\n. {self.top / "check"}\n')
 
     def write(self, name, text):
         path = self.top / name
@@ -246,12 +253,14 @@ class Copy:
 
     def begin(self, script, program=PROGRAM, stamp=""):
         """The kit's part, the program that an earlier run left, and its stamp; a pipe at which the kit waits."""
-        shutil.rmtree(self.top / "target", ignore_errors=True)
+        for made in (self.top / "target", self.built):
+            shutil.rmtree(made, ignore_errors=True)
+        self.built.parent.mkdir(parents=True, exist_ok=True)
         self.write("check", script)
         if program:
-            self.write("target/bin/sheet", program)
+            self.write("crates/sheet/out/sheet", program)
         if stamp:
-            self.write("target/stamp/sheet", stamp)
+            self.write("crates/sheet/out/sheet.stamp", stamp)
         if self.gate:
             os.close(self.gate)
             os.unlink(self.top / "go")
@@ -267,16 +276,17 @@ class Copy:
 
 def proving(tries, copy):
     """Said at once, while the kit is still at its first crate; then crate by crate."""
-    first = b"run: the panel is proved and built once, before its first run: one to two minutes"
+    first = b"run: the panel is proved and built once, before its first run: some minutes"
     changed = b"run: something has changed since the panel was built"
-    whole, sheet = b"rt: whole proved (18 s)\n", b"rt: sheet proved (7 s)\n"
-    build = "waits; echo 'rt: whole proved (18 s)'; waits\nmkdir -p target/bin; cp made target/bin/sheet; echo 'rt: sheet proved (7 s)'\n"
+    whole, sheet = b"run: whole is proved\n", b"run: sheet is proved\n"
+    proves = "echo 'rt: chose --jobs 2 for {0}'; {1}; echo 'fn {0}::first: proved'; echo 'crate {0}: modules loaded=9 checked=9'; echo 'logic=proved functions=1'\n"
+    build = proves.format("whole", "waits") + f"waits; mkdir -p out; cp {copy.top / 'made'} out/sheet\n" + proves.format("sheet", ":") + "echo header >&3\n"
     copy.write("made", copy.PROGRAM)
     for what, says, program, stamp in [
         ("the first run", first, "", ""), ("the program gone, its stamp there", first, "", "stamp"),
         ("after an edit", changed, "#!/bin/sh\necho old\n", "stamp"),
     ]:
-        stale = "" if program else "[ ! -e target/stamp/sheet ] || exit 9\n"
+        stale = "" if program else "[ ! -e out/sheet.stamp ] || exit 9\n"
         copy.begin(stale + build, program, stamp)
         run = copy.started()
         begins, *lines = [run.process.stderr.readline()]
@@ -285,7 +295,7 @@ def proving(tries, copy):
             lines.append(run.process.stderr.readline())
         out, rest = run.process.communicate()
         tries.holds(what, (None, True, [whole, sheet], b"page\n", b""), (run.end(), begins.startswith(says), lines, out, rest))
-    copy.begin("echo 'rt: sheet proved (7 s)'\n")
+    copy.begin(proves.format("sheet", ":"))
     run = copy.started()
     out, said = run.process.communicate()
     tries.holds("after a small edit", (None, b"page\n", True, True), (run.end(), out, said.startswith(changed), said.endswith(b"\n" + sheet)))
@@ -310,8 +320,8 @@ def waiting(tries, copy):
 def refusing(tries, copy):
     """The old program is not served; the last lines are shown, those that say nothing left out; the status is 1 whatever the kit's is."""
     for status in (1, 2, 3, 127):
-        log = [f"line {n}" for n in range(30)] + ["library whole: modules loaded=1 checked=0", "rt: whole NOT PROVED (exit 1, 3 s)"]
-        log += ["rt: sheet NOT PROVED: its dependency whole is not proved", "rt: FAILED: whole sheet"]
+        log = [f"line {n}" for n in range(30)] + ["library whole: modules loaded=1 checked=0", "fn whole::root: not proved"]
+        log += ["fn whole::step: proved", "rt: the library whole did not build, so nothing above it was checked"]
         copy.begin("".join(f"echo '{line}'\n" for line in log) + f"exit {status}\n")
         done = subprocess.run(copy.command, env=copy.env, capture_output=True, timeout=PATIENCE, text=True)
         *shown, last = done.stderr.splitlines() or [""]
@@ -336,6 +346,7 @@ def no_kit(tries, copy, room):
     tries.run("no sample", 2, b"", [], "examples/two-intakes.bin'", command=copy.command, env=copy.env)
     (copy.top / "moved").rename(copy.top / "examples/two-intakes.bin")
     shutil.rmtree(copy.top / "target")
+    shutil.rmtree(copy.built)
 
 
 def no_room(tries, copy):
@@ -345,6 +356,7 @@ def no_room(tries, copy):
     tries.run("target is a file", 1, b"", [], says, command=copy.command, env=copy.env)
     (copy.top / "target").unlink()
     copy.begin(copy.UNCHANGED)
+    (copy.top / "target").mkdir()
     for folder in (copy.top / "target", copy.top):
         folder.chmod(0o555)
         if subprocess.run([*BOUND, "touch", folder / "written"], capture_output=True).returncode != 1:
@@ -358,7 +370,7 @@ def no_room(tries, copy):
 def broken_off(tries, copy):
     """Stopped while the kit proves, nothing of it stays but the kit's own."""
     for number in (signal.SIGINT, signal.SIGTERM):
-        copy.begin("echo 'rt: whole proved (18 s)'; waits", program="")
+        copy.begin("echo 'rt: chose --jobs 2 for whole'; echo 'logic=proved functions=1'; waits", program="")
         run = copy.started()
         run.process.stderr.readline()
         run.process.stderr.readline()
