@@ -16,10 +16,11 @@ ROOT = Path(__file__).resolve().parent.parent
 CRATES = ROOT / "crates"
 PAGE = (ROOT / "docs/PROMISES.md").read_text(encoding="utf-8")
 LIBRARIES = sorted(p.parent.parent.name for p in CRATES.glob("*/src/lib.rt"))
-TEXTS = {p: p.read_text(encoding="utf-8") for kind in ("antt", "rt") for p in CRATES.rglob("*." + kind)}
+READ = [p for crate in CRATES.iterdir() for part in ("src", "specs", "proofs") for kind in ("antt", "rt") for p in (crate / part).rglob("*." + kind)]
+TEXTS = {p: p.read_text(encoding="utf-8") for p in READ}
 LAWS = {p: re.sub(r"(?m)(?:--|//) .*$", "", text) for p, text in TEXTS.items()}  # without comments
 
-INNER = {("whole", "*"), ("floats", "grid.place"), ("cells", "*"), ("texts", "put_line")}  # they ask for sizes or room, and their callers see to it
+INNER = {("whole", "*"), ("freezing", "*"), ("floats", "grid.place"), ("cells", "*"), ("texts", "put_line")}  # they ask for sizes or room, and their callers see to it
 
 wrong = []
 
@@ -50,7 +51,7 @@ def files_and_names():
         hold((ROOT / path).exists(), f"no such file: {path}")
     labels = {label for _, label in EDITS}
     known = "\n".join(LAWS.values())
-    words = {w for w in re.findall(r"`([^`\s]+)`", PAGE) if re.fullmatch(r"[A-Za-z][\w√′-]*", w)}
+    words = {w for w in re.findall(r"`([^`\s]+)`", PAGE) if re.fullmatch(r"[A-Za-z][\w√'-]*", w)}
     for word in sorted(words - labels):
         hold(re.search(r"(?<![\w-])%s(?![\w-])" % re.escape(word), known), f"no such name: {word}")
     return len(words - labels)
@@ -67,14 +68,15 @@ def columns():
             heads = [re.search(r"\(`(\w+/proofs/\w+)`\)", cell) for cell in cells]
             continue
         for head, cell in zip(heads, cells):
-            for law in re.findall(r"`([a-z]+(?:-[a-z]+)*)`", cell) if head else []:
+            for law in re.findall(r"`([a-z]+(?:_[a-z]+)*)`", cell) if head else []:
                 count += 1
                 hold(re.search(r"(?m)^\s*pub %s :" % re.escape(law), LAWS[CRATES / (head[1] + ".antt")]), f"no public law {law} in {head[1]}")
     return count
 
 
-WITH_REMARKS = """placeOf remarkOf firstOutside placedFor inOrder checkedFor checkedOf filled wateredOf entered checkedChannel channelOf needleOf comparisonOf
-channelNumber channelDensity channelBulk dissolved solubilityOf placeText placesText lineOf pageOf columns sideText sidesOf channelWords""".split()
+WITH_REMARKS = """place_of remark_of first_outside placed_for in_order checked_for checked_of filled watered_of entered checked_channel channel_of needle_of
+comparison_of channel_number channel_density channel_bulk dissolved solubility_of place_text places_text line_of page_of columns side_text
+sides_of channel_words""".split()
 
 
 def bare():
@@ -130,11 +132,12 @@ def functions():
                 elif found := re.match(r'\s*pub (?:extern "C" )?fn (\w+)', line):
                     count += 1
                     path = module + owner + found[1]
-                    alias = re.search(r"use Rattle·%s·proofs\.proofs\.%s\.Reads as (\S+)" % (crate, re.escape(path)), laws)
+                    alias = re.search(r"use Rattle\.%s\.proofs\.%s\.Reads as (\S+)" % (crate, re.escape(path)), laws)
                     hold(alias, f"no law over the contract of {crate}::{path}")
-                    hold(not alias or laws.count(f"{alias[1]}.Learnt κs a r s → {alias[1]}.Learnt κs a r′ s′") == 1, f"no law: {crate}::{path}")
+                    hold(not alias or laws.count(f"{alias[1]}.Learnt κs a r s → {alias[1]}.Learnt κs a r' s'") == 1, f"no law: {crate}::{path}")
                     if alias and not {(crate, "*"), (crate, path)} & INNER:
-                        hold(f"{alias[1]}.Asked κs a\nfree-{alias[1]} κs a = tt\n" in laws, f"no law that nothing is asked: {crate}::{path}")
+                        free = r"(?m)^pub (free_\w+) : .* → %s\.Asked κs a\n\1 κs a = tt$" % re.escape(alias[1])
+                        hold(re.search(free, laws), f"no law that nothing is asked: {crate}::{path}")
                     name = found[1].removeprefix("warpsorrel_")
                     hold(re.search(r"`(?:[\w:]+::|warpsorrel_)?%s`" % name, PAGE), f"a public function that the page does not name: {crate}::{path}")
     return count

@@ -4,7 +4,7 @@
     python3 tests/paper.py COMMAND ...      the command that starts the driver (tests/driver.c)
 
 Every line of each paper is asked of the compiled code, and so is the line after the last; and it is worked out once more by the page's own steps, whose
-sentences have to stand there as they stand in RULE. The lines of the theorem `paper-points` are those of the page. Sums, digits, the check below a paper,
+sentences have to stand there as they stand in RULE. The lines of the theorem `paper_points` are those of the page. Sums, digits, the check below a paper,
 the ladder and every other number of the page are worked out here: each that is changed has to be seen. What examples/root-on-paper prints has to be on the
 page as it is, on x86-64, where it can be run; it has to refuse what is no salinity, and to say so where a last line is none.
 """
