@@ -262,14 +262,14 @@ def changed_rows(table, code):
 # ---- ln K0: the lines that have its coefficients, each with its digits <d>, the power of ten beside them <p> and, where it has one, its sign <s>
 
 DEFINITION = """
-byCold n = <d0> * 10 ^ <p0> / n
-fine σ n = <s1> (<d1> * 10 ^ <p1>) +ℤ pos (byCold n) +ℤ pos (byLog n) +ℤ bySalt σ n
-byLog n = <d2> * lnT n / 10 ^ <p2>
+by_cold n = <d0> * 10 ^ <p0> / n
+fine σ n = <s1> (<d1> * 10 ^ <p1>) +ℤ pos (by_cold n) +ℤ pos (by_log n) +ℤ by_salt σ n
+by_log n = <d2> * ln_t n / 10 ^ <p2>
 salts = <s3> (<d3> * 10 ^ <p3>) ∷ <s4> (<d4> * 10 ^ <p4>) ∷ <s5> (<d5> * 10 ^ <p5>) ∷ []
 """
 IN_FRACTIONS = """
-    over <d0> (10 ^ <p0>) ⊗ over 100_000 n <s1> over <d1> (10 ^ <p1>) ⊕ over <d2> (10 ^ <p2>) ⊗ lnF j k n ⊕ over σ 1_000 ⊗ saltF n
-saltF n = units (10 ^ <p3>) (<s3> <d3>) ⊕ hundreds n ⊗ (units (10 ^ <p4>) (<s4> <d4>) ⊕ hundreds n ⊗ units (10 ^ <p5>) (<s5> <d5>))
+    over <d0> (10 ^ <p0>) ⊗ over 100_000 n <s1> over <d1> (10 ^ <p1>) ⊕ over <d2> (10 ^ <p2>) ⊗ ln_f j k n ⊕ over σ 1_000 ⊗ salt_f n
+salt_f n = units (10 ^ <p3>) (<s3> <d3>) ⊕ hundreds n ⊗ (units (10 ^ <p4>) (<s4> <d4>) ⊕ hundreds n ⊗ units (10 ^ <p5>) (<s5> <d5>))
 """
 FORMS = {"d": "[0-9]+(?:_[0-9]+)?", "p": "[0-9]+", "s": "pos|neg|⊕|⊖"}
 TURNED = {"pos": "neg", "neg": "pos", "⊕": "⊖", "⊖": "⊕"}

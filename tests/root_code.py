@@ -44,7 +44,7 @@ def hold(fact, otherwise):
 
 
 def check_written(steps, code):
-    parts = re.search(r"(?s)_≫_ : ℕ → ℕ → ℕ\nn ≫ k = n / 2 \^ k\n(.*)", steps), re.search(r"(?s)pub struct Trial \{(.*?\npub fn root\(.*?\n\})\n", code)
+    parts = re.search(r"(?s)◌≫◌ : ℕ → ℕ → ℕ\nn ≫ k = n / 2 \^ k\n(.*)", steps), re.search(r"(?s)pub struct Trial \{(.*?\npub fn root\(.*?\n\})\n", code)
     hold(all(parts), "the steps or the code of the root are not where they were")
     for what, text in (("steps", re.sub(r"--.*", "", parts[0][1])), ("code", re.sub(r"//.*|(?m:^\s*(?:requires|ensures) .*$)", "", parts[1][1]))):
         found = re.search(r".*(?:[*/%^]|\bpow|\bsqrt|whole::|scaled|\bstep\().*", text)
@@ -53,7 +53,7 @@ def check_written(steps, code):
 
 
 def faults_written(steps, code):
-    for old, new in (("t .root ≫ 1 })", "t .root / 2 })"), ("(t .root ≫ 1) + t .bit", "(t .root ≫ 1) + t .bit * 1"), ("(pairsOf n ≪ 1)", "(2 * pairsOf n)")):
+    for old, new in (("t.root ≫ 1 })", "t.root / 2 })"), ("(t.root ≫ 1) + t.bit", "(t.root ≫ 1) + t.bit * 1"), ("(pairs_of n ≪ 1)", "(2 * pairs_of n)")):
         yield f"steps: {new}", (steps.replace(old, new), code)
     for old, new in (("self.root >> 1", "self.root / 2"), ("self.bit >> 2", "self.bit / 4"), ("pairs << 1", "2 * pairs"), ("    searched(n)", "    scaled(n, 1)")):
         yield f"code: {new}", (steps, code.replace(old, new))
