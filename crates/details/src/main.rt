@@ -11,11 +11,15 @@ fn main(rt: HostRuntime) {
     let mut input = [0u8; 65_536];
     let n = read_whole(&mut rt.stdin(), &mut input);
     let mut out = [0u8; tables::TABLE_ROOM];
-    let filled = tables::write_table(&input[..n], &mut out);
+    print(&rt, &input[..n], &mut out);
+}
+
+fn print(rt: &impl Print, stream: &[u8], out: &mut [u8; tables::TABLE_ROOM]) {
+    let filled = tables::write_table(stream, out);
     let Filled::Page(k) = filled else {
         return;
     };
-    show(&rt, &out, k);
+    show(rt, out, k);
 }
 
 // Reads until the buffer is full, the input ends or a read fails, and answers how many bytes there are at its start.
