@@ -8,8 +8,8 @@ number is multiplied, divided or raised to a power; contracts and comments aside
 
 As linked: the root's code begins where the leading zeros of a number are counted, which nothing else in the archive does, and ends with the jump back of
 the loop that follows. It stands in line in the work of a reading (sea::sounded) and in the call for a root (warpsorrel_root). In each the number is the
-product by 100,000, which belongs to the recipe and not to the root, and nothing else; the instructions are those of START and of TRIAL, and the one jump
-in the loop is its end. The two loops are the same, registers' names aside, and the numbers that they begin with are made in the same way: so the trials
+product by 100,000, which belongs to the recipe and not to the root, and nothing else; the instructions are those of START and of TRIAL, and 0 put into a register;
+the one jump in the loop is its end. The two loops are the same, registers' names aside, and the numbers that they begin with are made in the same way: so the trials
 that are tried with every salinity are those that a reading goes through. Beside that product the call for a root has no multiplication and no division in
 all of its code.
 
@@ -67,7 +67,7 @@ def functions(text):
     found = {}
     for block in re.split(r"\n\n", text):
         if head := re.search(r"^[0-9a-f]+ <(.+)>:$", block, re.M):
-            lines = re.findall(r"^\s*([0-9a-f]+):\t(\S+)(?:\s+(.*))?$", block, re.M)
+            lines = re.findall(r"^ *([0-9a-f]+):\t(\S+)(?: +(.*))?$", block, re.M)
             found[head[1]] = [(int(at, 16), name, operands.strip()) for at, name, operands in lines]
     return found
 
@@ -124,7 +124,8 @@ def root_of(where, code):
     hold(code[starts[0]] in start, f"{where}: the loop holds more than the trials")
     for lines, allowed in ((start, START), (loop, TRIAL)):
         for _, name, operands in lines:
-            hold(name in allowed and not re.search(r"\*[248]", operands), f"{where}: {name} {operands}")
+            nought = name == "xor" and len(set(operands.split(","))) == 1  # a register with itself: 0 is put there
+            hold((name in allowed or nought) and not re.search(r"\*[248]", operands), f"{where}: {name} {operands}")
     hold([name for _, name, _ in loop if name[0] == "j"] == ["jne"], f"{where}: a jump in the loop that is not its end")
     hold(loop[-2][1] == "shr" and loop[-2][2].endswith(",0x2"), f"{where}: the loop does not end with the trial bit two places lower")
     number = code[products[0]][2].split(",")[0]
@@ -170,6 +171,7 @@ def faults_linked(text, roots):
         yield f"{where}: a square root before the loop", put(line("and"), "sqrtsd", "xmm0,xmm0")
         yield f"{where}: a jump on the digit found", put(loop[3], "jb", "%x <%s+0x%x>" % (loop[5][0], where, loop[5][0]))
         yield f"{where}: an and for an add", put(line("add", of=loop), "and", line("add", of=loop)[2])
+        yield f"{where}: an exclusive or in the loop", put(line("xor", of=loop), "xor", line("xor", of=loop)[2].split(",")[0] + ",ecx")
         yield f"{where}: eight times the bit", put(loop[0], "lea", loop[0][2].replace("*1", "*8"))
         yield f"{where}: other shifts of the bit", other("shr", "0x2", "0x1", loop)
         yield f"{where}: other shifts of the root", other("shr", ",1", ",3", loop)
