@@ -3,12 +3,12 @@
 #include <stdlib.h>
 #include "plain.h"
 
-/* crates/cells' put_row, as it is compiled: a slice is handed over as the place of a pointer and a length. */
-struct slice {
-    const void *start;
-    size_t length;
-};
-size_t put_row(const struct slice *kinds, const struct slice *values, uint8_t separator, const struct slice *buf, size_t at);
+/* crates/cells' put_row, as it is compiled: a slice is handed over as a pointer and a length. */
+size_t put_row(const uint8_t *kinds, size_t many, const int64_t *values, size_t as_many, uint8_t separator, uint8_t *buf, size_t room, size_t at);
+
+/* The program's own main comes along with the writer, and asks this; it is not called. */
+int rattle_errno(void);
+int rattle_errno(void) { return 0; }
 
 /* A number with so many decimal places, R and a number, a word. */
 static const uint8_t accepted[] = {0, 'w', 3, 3, 2, 3, 2, 6, 'w', 0}, refused[] = {0, 'w', 'R', 'R', 'R', 'R', 'R', 'R', 'R', 0};
@@ -20,13 +20,12 @@ static const int64_t words[] = {0x6c656674, 0x7269676874};
 
 size_t library_row(const struct row *r, uint8_t *out, size_t room, size_t at) {
     const int *w = r->whole;
-    struct slice buf = {out, room};
     if (r->shape == SHEET) {
         int64_t values[] = {r->number, w[0], w[1], w[2]};
-        return put_row(&(struct slice){sheet, 4}, &(struct slice){values, 4}, ' ', &buf, at);
+        return put_row(sheet, 4, values, 4, ' ', out, room, at);
     }
     int64_t values[] = {r->number, words[r->side], w[0], w[1], w[2], w[3], w[4], w[5], w[6], w[7]};
-    return put_row(&(struct slice){r->shape == REFUSED ? refused : accepted, 10}, &(struct slice){values, 10}, ',', &buf, at);
+    return put_row(r->shape == REFUSED ? refused : accepted, 10, values, 10, ',', out, room, at);
 }
 
 #define PRINT(...) (at + (size_t)snprintf((char *)out + at, room - at, __VA_ARGS__))

@@ -8,10 +8,10 @@ number is multiplied, divided or raised to a power; contracts and comments aside
 
 As linked: the root's code begins where the leading zeros of a number are counted, which nothing else in the archive does, and ends with the jump back of
 the loop that follows. It stands in line in the work of a reading (sea::sounded) and in the call for a root (warpsorrel_root). In each the number is the
-product by 100,000, which belongs to the recipe and not to the root, and nothing else; the instructions are those of START and of TRIAL, and 0 put into a register;
-the one jump in the loop is its end. The two loops are the same, registers' names aside, and the numbers that they begin with are made in the same way: so the trials
-that are tried with every salinity are those that a reading goes through. Beside that product the call for a root has no multiplication and no division in
-all of its code.
+product by 100,000, which belongs to the recipe and not to the root, and nothing else; the instructions are those of START and of TRIAL, and 0 put into a
+register; the one jump in the loop is its end. The two loops are the same, registers' names aside, and the numbers that they begin with are made in the
+same way: so the trials that are tried with every salinity are those that a reading goes through. Beside that product the call for a root has no
+multiplication and no division in all of its code.
 
 Last, the same texts with a fault in them have to be refused.
 """
