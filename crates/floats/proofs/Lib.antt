@@ -2,5 +2,6 @@ mod Floors
 mod Patterns
 pub mod Order
 pub mod Remarks
+pub mod Exact
 pub mod Quotient
 pub mod One

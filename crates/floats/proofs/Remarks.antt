@@ -3,17 +3,17 @@
 use Prim.Native.Nat.{ℕ, ◌+◌, ◌*◌, ◌≤◌, ◌<◌}
 use mathlib.Core.Path.{◌≡◌, refl, sym, ap, ◌∙◌, subst}
 use mathlib.Core.Bool.{Bool, true, false, cond}
-use native.Mathlib.Nat.{mul-le-mul_left, zero-mul}
+use native.Mathlib.Nat.{mul-le-mul_left}
 use native.Mathlib.Omega.{arith}
 use native.Mathlib.Decide.{dec_le}
 use lib.IntN.{ℤ, pos, ◌+ℤ◌, ◌*ℤ◌}
 use lib.Signed.{le_z, le_z_yes}
 use lib.Dec.{T, lit≤}
-use lib.Ieee.{Float, fin, up, down, binary32, of_bits}
+use lib.Ieee.{Float, binary32, of_bits}
 use Rattle.whole.specs.Arith.{plus, minus}
 use Rattle.whole.specs.Order.{◌≼◌}
 use Rattle.whole.proofs.Ints.{add_is, mul_plus, mul_minus, to_≤ℤ, of_≤ℤ, to_<ℤ, of_<ℤ, same}
-use Rattle.floats.specs.Grid.{signed, numer, denom, grid_no, seen_from, in_steps as steps, point_of as at, remark_of, remark_number, InHalf, AtMost}
+use Rattle.floats.specs.Grid.{numer, denom, grid_no, seen_from, in_steps as steps, point_of as at, remark_of, remark_number, InHalf, AtMost}
 use Rattle.floats.specs.declared.Remark.{Remark}
 use Rattle.floats.specs.declared.Remark.TheVariants.{Below, On, Above}
 use Rattle.floats.proofs.Floors.{across, under}
@@ -91,13 +91,13 @@ one_near k x g h n m = same g h (omega (arith, below g h n m, below h g m n))
         (omega (arith, n.not_more, m.less, at_plus k x g, at_minus k x g, at_plus k x h, at_minus k x h))
 
 -- ---- in which half step the value lies
-twice_plus : (z : ℤ) → plus (pos 2 *ℤ z) ≡ 2 * plus z
+pub twice_plus : (z : ℤ) → plus (pos 2 *ℤ z) ≡ 2 * plus z
 twice_plus z = omega (arith, mul_plus (pos 2) z)
 
-twice_minus : (z : ℤ) → minus (pos 2 *ℤ z) ≡ 2 * minus z
+pub twice_minus : (z : ℤ) → minus (pos 2 *ℤ z) ≡ 2 * minus z
 twice_minus z = omega (arith, mul_minus (pos 2) z)
 
-half_more : (z : ℤ) (d : ℕ) → plus (pos 2 *ℤ z +ℤ pos d) + 2 * minus z ≡ minus (pos 2 *ℤ z +ℤ pos d) + (2 * plus z + d)
+pub half_more : (z : ℤ) (d : ℕ) → plus (pos 2 *ℤ z +ℤ pos d) + 2 * minus z ≡ minus (pos 2 *ℤ z +ℤ pos d) + (2 * plus z + d)
 half_more z d = omega (arith, (add_is (pos 2 *ℤ z) (pos d)).is, twice_plus z, twice_minus z)
 
 pub lies : (k : ℕ) (x : Float) → InHalf (remark_of k x) k (grid_no k x) x
@@ -166,32 +166,10 @@ told m k g x h = let e = one_near k x (grid_no k x) g (number_near k x) (near m 
     seen On h = rw (le_true a v (omega (arith, ap plus h, ap minus h)), le_true v a (omega (arith, ap plus h, ap minus h)))
     seen Above h = let l = of_<ℤ a v h.0 in rw (le_true a v (omega (arith, l)), le_false v a l)
 
--- ---- on: exactly if the value times the steps is a whole number, which is then the grid number
+-- ---- on: only if the value times the steps is a whole number, which is then the grid number; and where it is (Exact)
 pub on_whole : (k : ℕ) (x : Float) → remark_of k x ≡ On → steps k x ≡ at (grid_no k x) x
 unfolding InHalf
 on_whole k x e = subst (λ (m : Remark). InHalf m k (grid_no k x) x) e (lies k x)
-
-pub whole_on : (k : ℕ) (x : Float) (z : ℤ) → steps k x ≡ at z x → (grid_no k x ≡ z) × (remark_of k x ≡ On)
-unfolding InHalf
-whole_on k x z h = told On k z x h
-
--- so 0 is on, with either sign; and a half, which is rounded upward, is below its point
-pub zero_on : (k : ℕ) (s : Bool) (e : ℤ) → (grid_no k (fin s 0 e) ≡ pos 0) × (remark_of k (fin s 0 e) ≡ On)
-zero_on k s e = whole_on k (fin s 0 e) (pos 0) (nought s)
-  where
-    nought : (s : Bool) → signed s (0 * up e) *ℤ pos k ≡ pos 0 *ℤ pos (down e)
-    nought false = rw (zero-mul (up e)) (ap pos (zero-mul k ∙ sym (zero-mul (down e))))
-    nought true = rw (zero-mul (up e)) (ap pos (zero-mul k ∙ sym (zero-mul (down e))))
-
-pub half_below : (k : ℕ) (x : Float) (g : ℤ) → pos 2 *ℤ steps k x +ℤ pos (denom x) ≡ pos 2 *ℤ at g x → (grid_no k x ≡ g) × (remark_of k x ≡ Below)
-unfolding InHalf
-half_below k x g h =
-    let v = steps k x in
-    let a = at g x in
-    told Below k g x (
-      to_≤ℤ _ _ (omega (arith, ap plus h, ap minus h)),
-      to_<ℤ v a (omega (arith, half_more v (denom x), ap plus h, ap minus h, twice_plus a, twice_minus a, denom_pos x)),
-    )
 
 -- ---- of two floats with one grid number the greater has no lower remark
 module _ (k : ℕ) (x y : Float) (o : AtMost x y) (g : ℤ) where

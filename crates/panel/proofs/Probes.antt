@@ -19,40 +19,15 @@ use Rattle.panel.specs.declared.Shared.{Shared}
 use Rattle.panel.specs.Panel.{channel_of, probe_of, shared_of, needle_of, comparison_of}
 use Rattle.panel.specs.Probes.{Shares, Accepts, Stops, left_refused, right_refused, one_probe, OnlyStopped, StopsRefuse, StillShown, SwapTurns, SwapKeeps}
 use Rattle.panel.proofs.Needles.{swapped}
+use Rattle.panel.proofs.Shares.{shared_means, means_shared, shares_real}
 use Rattle.panel.proofs.Samples.{fresh_of, salt_of, fresh_of_is, salt_of_is, fresh_is, salt_is, nothing_is, needle_is}
 use Rattle.panel.proofs.paired.Reads as paired
 
--- ---- what `shared_of` answers
-by_tests : (a b : ℕ) → cond (eqb a 0) Shared.No (cond (eqb a b) Shared.Yes Shared.No) ≡ Shared.Yes → (a ≡ b) × ¬ (a ≡ 0)
-by_tests a b = go (eqb a 0) (eqb a b) refl refl
-  where
-    never : Shared.No ≡ Shared.Yes → ⊥
-    never e = let z : ◌≡◌ {A = ℕ} 0 1 = cc in omega arith
-
-    go : (s t : Bool) → eqb a 0 ≡ s → eqb a b ≡ t → cond s Shared.No (cond t Shared.Yes Shared.No) ≡ Shared.Yes → (a ≡ b) × ¬ (a ≡ 0)
-    go true t p q e = absurd (never e)
-    go false true p q e = (eqb-true a b q, eqb-false a 0 p)
-    go false false p q e = absurd (never e)
-
--- yes means what it says
-pub shared_means : (l r : Entry) → shared_of l r ≡ Shared.Yes → Shares l r
-shared_means (Entry.Reading n a) (Entry.Reading m b) e =
-    let w = by_tests n m e in
-    record { number = n; own = w.1; left_report = a; left_is = refl; right_report = b; right_is = ap (λ (k : ℕ). Entry.Reading k b) (sym w.0) }
-shared_means (Entry.Reading n a) (Entry.Refused u) e = let w = by_tests n 0 e in absurd (w.1 w.0)
-shared_means (Entry.Refused u) r e = absurd ((by_tests 0 (probe_of r) e).1 refl)
-
-pub means_shared : (l r : Entry) → Shares l r → shared_of l r ≡ Shared.Yes
-means_shared l r s =
-    let a : probe_of l ≡ s.number = ap probe_of s.left_is in
-    let b : probe_of r ≡ s.number = ap probe_of s.right_is in
-    rw (a, b, ne_eqb s.number 0 s.own, eq-eqb s.number s.number refl)
-
+-- ---- sharing is the same whichever stands left (what `shared_of` answers: Shares)
 pub shares_either : (l r : Entry) → Shares l r → Shares r l
 shares_either l r s =
     record { number = s.number; own = s.own; left_report = s.right_report; left_is = s.right_is; right_report = s.left_report; right_is = s.left_is }
 
--- the same whichever stands left
 pub shared_either : (l r : Entry) → shared_of r l ≡ shared_of l r
 shared_either l r = go (shared_of l r) refl (shared_of r l) refl
   where
@@ -115,9 +90,7 @@ salt_accepted : (n : ℕ) → Accepts (salt_of n)
 salt_accepted n = record { point = _; density = _; bulk = _; remarks = _; is = salt_of_is n }
 
 pub one_probe_real : (comparison_of (fresh_of 17) (salt_of 17)).needle ≡ Needle.Refused 32
-one_probe_real =
-    let s : Shares (fresh_of 17) (salt_of 17) = record { number = 17; own = λ e. absurd (omega (arith, e)); left_report = _; left_is = refl; right_report = _; right_is = refl } in
-    stops_refuse (fresh_of 17) (salt_of 17) 32 (one_probe (fresh_accepted 17) (salt_accepted 17) s)
+one_probe_real = stops_refuse (fresh_of 17) (salt_of 17) 32 (one_probe (fresh_accepted 17) (salt_accepted 17) shares_real)
 
 pub real_shown :
     (channel_density (comparison_of (fresh_of 17) (salt_of 17)).left ≡ 999_967) × (channel_density (comparison_of (fresh_of 17) (salt_of 17)).right ≡ 1_027_675)

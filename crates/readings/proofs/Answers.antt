@@ -14,7 +14,7 @@ use Rattle.floats.specs.Grid.{Range, inside, grid_no, remark_of, place_of}
 use Rattle.floats.specs.declared.Place.{Place}
 use Rattle.floats.specs.declared.Remark.TheVariants.{On}
 use Rattle.floats.proofs.Order.{grid_within}
-use Rattle.floats.proofs.Remarks.{zero_on}
+use Rattle.floats.proofs.Exact.{zero_on}
 use Rattle.readings.specs.Check.{salinities, temperatures, pressures, deep_of, surface_of, given_of, all_finite, first_outside, placed_for, in_order, checked_for}
 use Rattle.readings.proofs.Reasons.{Lying, Gridded, Remarked, Usable, Reason, missing, not_finite, salinity, temperature, pressure, Answered, taken, refused}
 use Rattle.readings.specs.declared.Purpose.{Purpose}

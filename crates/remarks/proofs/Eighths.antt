@@ -10,7 +10,8 @@ use Rattle.whole.specs.Arith.{plus, minus}
 use Rattle.whole.proofs.Ints.{sub_is, mul_plus, mul_minus, same}
 use Rattle.floats.specs.Grid.{numer, denom, grid_no, in_steps, point_of, remark_of}
 use Rattle.floats.specs.declared.Remark.TheVariants.{On}
-use Rattle.floats.proofs.Remarks.{on_whole, whole_on}
+use Rattle.floats.proofs.Exact.{whole_on}
+use Rattle.floats.proofs.Remarks.{on_whole}
 
 record Power (n : ℕ) : Type 0 where
   exponent : ℕ
