@@ -2,7 +2,7 @@ pub mod Answers
 pub mod Sizes
 pub mod Pairing
 pub mod Needles
-pub mod Shares
+pub mod Sharing
 pub mod Probes
 pub mod Samples
 pub mod Cases

@@ -2,12 +2,9 @@
 -- swapping does. Of the definition, and once more from the contract of `panel::paired`. Assumes nothing.
 use Prim.Native.Nat.{ℕ}
 use mathlib.Core.Path.{◌≡◌, refl, sym, ap, ap₂, ◌∙◌, subst}
-use mathlib.Core.Bool.{Bool, true, false, cond}
 use native.Mathlib.Omega.{arith}
-use lib.Dec.{eqb}
 use lib.IntN.{ℤ, pos}
 use contract.Lifetimes
-use borrow.Author.Tests.{eqb-true, eqb-false, eq-eqb, ne_eqb}
 use Rattle.refusals.specs.declared.Refusal.{Refusal}
 use Rattle.readings.specs.declared.Report.{Report}
 use Rattle.readings.specs.declared.Entry.{Entry}
@@ -16,14 +13,14 @@ use Rattle.channels.specs.declared.Needle.{Needle}
 use Rattle.channels.specs.declared.Comparison.{Comparison}
 use Rattle.channels.specs.Numbers.{channel_density}
 use Rattle.panel.specs.declared.Shared.{Shared}
-use Rattle.panel.specs.Panel.{channel_of, probe_of, shared_of, needle_of, comparison_of}
+use Rattle.panel.specs.Panel.{channel_of, shared_of, needle_of, comparison_of}
 use Rattle.panel.specs.Probes.{Shares, Accepts, Stops, left_refused, right_refused, one_probe, OnlyStopped, StopsRefuse, StillShown, SwapTurns, SwapKeeps}
 use Rattle.panel.proofs.Needles.{swapped}
-use Rattle.panel.proofs.Shares.{shared_means, means_shared, shares_real}
+use Rattle.panel.proofs.Sharing.{shared_means, means_shared, shares_real}
 use Rattle.panel.proofs.Samples.{fresh_of, salt_of, fresh_of_is, salt_of_is, fresh_is, salt_is, nothing_is, needle_is}
 use Rattle.panel.proofs.paired.Reads as paired
 
--- ---- sharing is the same whichever stands left (what `shared_of` answers: Shares)
+-- ---- sharing is the same whichever stands left (what `shared_of` answers: Sharing)
 pub shares_either : (l r : Entry) → Shares l r → Shares r l
 shares_either l r s =
     record { number = s.number; own = s.own; left_report = s.right_report; left_is = s.right_is; right_report = s.left_report; right_is = s.left_is }
