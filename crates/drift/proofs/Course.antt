@@ -1,5 +1,5 @@
 -- The formula's course: where its density lies and how steep it is, while one of v, x, u and q moves, computed step by step as the formula is made.
--- D·K/(K − P) is taken as D + D·P/(K − P), so that what is large in D-as-K and in K − P does not stand against itself. Assumes nothing.
+-- D·K/(K − P) is taken as D + D·P/(K − P), so that what is large in D·K and in K − P does not stand against itself. Assumes nothing.
 use Prim.Native.Nat.{ℕ, ◌+◌, ◌*◌, ◌<◌}
 use mathlib.Core.Path.{◌≡◌, sym, ap}
 use mathlib.Core.List.{List}
