@@ -3,16 +3,22 @@
 #include <stdlib.h>
 #include "plain.h"
 
-/* crates/cells' put_row, as it is compiled: a slice is handed over as a pointer and a length. */
-size_t put_row(const uint8_t *kinds, size_t many, const int64_t *values, size_t as_many, uint8_t separator, uint8_t *buf, size_t room, size_t at);
+/* crates/cells' Cell and put_row, as they are compiled: a slice is handed over as a pointer and a length. A cell is a number with so many decimal places, R
+ * and a number, or a word. */
+enum { FIXED, REFUSAL, WORD };
+struct cell {
+    uint8_t kind, places;
+    int64_t value;
+};
+size_t put_row(const struct cell *cells, size_t many, uint8_t separator, uint8_t *buf, size_t room, size_t at);
 
 /* The program's own main comes along with the writer, and asks this; it is not called. */
 int rattle_errno(void);
 int rattle_errno(void) { return 0; }
 
-/* A number with so many decimal places, R and a number, a word. */
-static const uint8_t accepted[] = {0, 'w', 3, 3, 2, 3, 2, 6, 'w', 0}, refused[] = {0, 'w', 'R', 'R', 'R', 'R', 'R', 'R', 'R', 0};
-static const uint8_t sheet[] = {0, 0, 0, 0};
+/* What the cells of a row are: their kinds, and the places of those that are numbers. */
+static const uint8_t accepted[] = {FIXED, WORD, FIXED, FIXED, FIXED, FIXED, FIXED, FIXED, WORD, FIXED}, places[] = {0, 0, 3, 3, 2, 3, 2, 6, 0, 0};
+static const uint8_t refused[] = {FIXED, WORD, REFUSAL, REFUSAL, REFUSAL, REFUSAL, REFUSAL, REFUSAL, REFUSAL, FIXED};
 
 static const char *const sides[] = {"left", "right"};
 /* The same, a letter a byte. */
@@ -20,12 +26,14 @@ static const int64_t words[] = {0x6c656674, 0x7269676874};
 
 size_t library_row(const struct row *r, uint8_t *out, size_t room, size_t at) {
     const int *w = r->whole;
+    struct cell cells[10];
     if (r->shape == SHEET) {
-        int64_t values[] = {r->number, w[0], w[1], w[2]};
-        return put_row(sheet, 4, values, 4, ' ', out, room, at);
+        for (int i = 0; i < 4; i++) cells[i] = (struct cell){FIXED, 0, i ? w[i - 1] : r->number};
+        return put_row(cells, 4, ' ', out, room, at);
     }
-    int64_t values[] = {r->number, words[r->side], w[0], w[1], w[2], w[3], w[4], w[5], w[6], w[7]};
-    return put_row(r->shape == REFUSED ? refused : accepted, 10, values, 10, ',', out, room, at);
+    const uint8_t *kinds = r->shape == REFUSED ? refused : accepted;
+    for (int i = 0; i < 10; i++) cells[i] = (struct cell){kinds[i], places[i], i > 1 ? w[i - 2] : i ? words[r->side] : r->number};
+    return put_row(cells, 10, ',', out, room, at);
 }
 
 #define PRINT(...) (at + (size_t)snprintf((char *)out + at, room - at, __VA_ARGS__))

@@ -20,7 +20,7 @@ READ = [p for crate in CRATES.iterdir() for part in ("src", "specs", "proofs") f
 TEXTS = {p: p.read_text(encoding="utf-8") for p in READ}
 LAWS = {p: re.sub(r"(?m)(?:--|//) .*$", "", text) for p, text in TEXTS.items()}  # without comments
 
-INNER = {("whole", "*"), ("freezing", "*"), ("floats", "grid.place"), ("cells", "*"), ("texts", "put_line")}  # they ask for sizes or room, and their callers see to it
+INNER = {("whole", "*"), ("freezing", "*"), ("floats", "grid.place"), ("cells", "*"), ("texts", "put_line"), ("pages", "write")}  # they ask for sizes or room, and their callers see to it
 
 wrong = []
 
@@ -125,7 +125,7 @@ def functions():
             module = "" if source.stem == "lib" else source.stem + "."
             owner = ""
             for line in TEXTS[source].splitlines():
-                if found := re.match(r"impl (\w+) \{", line):
+                if found := re.match(r"impl(?:<.*?>)? (\w+)(?:<.*?>)? \{", line):
                     owner = found[1] + "."
                 elif line.startswith("}"):
                     owner = ""
@@ -134,9 +134,11 @@ def functions():
                     path = module + owner + found[1]
                     alias = re.search(r"use Rattle\.%s\.proofs\.%s\.Reads as (\S+)" % (crate, re.escape(path)), laws)
                     hold(alias, f"no law over the contract of {crate}::{path}")
-                    hold(not alias or laws.count(f"{alias[1]}.Learnt κs a r s → {alias[1]}.Learnt κs a r' s'") == 1, f"no law: {crate}::{path}")
+                    told = r"(?<=[ (])%s\.Learnt (?:[a-z] )*κs a r s → %s\.Learnt (?:[a-z] )*κs a r' s'"  # a generic function's types come first
+                    hold(not alias or len(re.findall(told % (alias[1], alias[1]), laws)) == 1, f"no law: {crate}::{path}")
                     if alias and not {(crate, "*"), (crate, path)} & INNER:
-                        free = r"(?m)^pub (free_\w+) : .* → %s\.Asked κs a\n\1 κs a = tt$" % re.escape(alias[1])
+                        asked = r"%s\.Asked (?:[a-z] )*κs a\n\1 (?:[a-z] )*κs a" % re.escape(alias[1])  # of a type that holds no loan, where it is any type
+                        free = r"(?m)^pub (free_\w+) : .* → (?:%s = tt|t\.lives ≡ \[\] → %s e = .*)$" % (asked, asked.replace("\\1", "\\1"))
                         hold(re.search(free, laws), f"no law that nothing is asked: {crate}::{path}")
                     name = found[1].removeprefix("warpsorrel_")
                     hold(re.search(r"`(?:[\w:]+::|warpsorrel_)?%s`" % name, PAGE), f"a public function that the page does not name: {crate}::{path}")

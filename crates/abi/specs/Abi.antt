@@ -1,15 +1,13 @@
 -- What the C ABI's numbers stand for.
-use Rattle.std.specs.Prelude.{ℕ, cond, List, [], ◌∷◌, eqb, ℤ, pos, Float}
+use Rattle.std.specs.Prelude.{ℕ, cond, List, [], ◌∷◌, eqb, ℤ, pos, Float, Option, Some, None, Ok, Err}
 use Rattle.refusals.specs.declared.Unread.{Unread}
 use Rattle.floats.specs.Grid.{remark_number}
-use Rattle.readings.specs.declared.Entry.{Entry}
-use Rattle.kinds.specs.declared.Kind.{Kind}
-use Rattle.kinds.specs.declared.Kind.TheVariants.{Known, Unknown}
+use Rattle.readings.specs.Entry.{Entry, message}
+use Rattle.kinds.specs.declared.Row.{Row}
 use Rattle.kinds.specs.Kinds.{kind_of, report_of}
-use Rattle.channels.specs.declared.Channel.{Channel}
+use Rattle.channels.specs.Answer.{Channel}
 use Rattle.channels.specs.declared.Comparison.{Comparison}
 use Rattle.channels.specs.Numbers.{channel_number, channel_density, channel_bulk, needle_number, needle_value}
-use Rattle.streams.specs.declared.Found.{Found}
 
 -- the ABI's own number: it goes up when a call that was there changes what it takes or what it answers
 abbrev pub version : ℕ
@@ -21,9 +19,9 @@ abbrev pub unread_of : ℕ → Unread
 unread_of kind = cond (eqb kind 65542) Unread.Cut (cond (eqb kind 65544) Unread.Length Unread.Kind)
 
 -- a kind of the table, and what it says of the floats; the number is given beside it, whichever family the kind is of
-abbrev pub entry_by : ℕ → ℕ → Float → Float → Float → Kind → Entry
-entry_by kind probe s t p (Known row) = Entry.Reading probe (report_of row.holds s t p)
-entry_by kind probe s t p Unknown = Entry.Refused (unread_of kind)
+abbrev pub entry_by : ℕ → ℕ → Float → Float → Float → Option Row → Entry
+entry_by kind probe s t p (Some row) = message probe (report_of row.holds s t p)
+entry_by kind probe s t p None = Err (unread_of kind)
 
 -- what a kind, a probe's number and three floats stand for
 unfoldable pub entry_of : ℕ → ℕ → Float → Float → Float → Entry
@@ -32,10 +30,10 @@ entry_of kind probe s t p = entry_by kind probe s t p (kind_of kind)
 -- a channel's grid numbers, density and bulk modulus, and the remarks of salinity, temperature and pressure, each by its number: 1 below, 2 on, 3 above.
 -- Noughts if refused: 0 is no remark
 abbrev pub channel_words : Channel → List ℤ
-channel_words (Channel.Accepted p d k m) =
-    p.sigma ∷ p.tau ∷ p.pi ∷ pos d ∷ pos k
-    ∷ pos (remark_number m.salinity) ∷ pos (remark_number m.temperature) ∷ pos (remark_number m.pressure) ∷ []
-channel_words (Channel.Refused r) = pos 0 ∷ pos 0 ∷ pos 0 ∷ pos 0 ∷ pos 0 ∷ pos 0 ∷ pos 0 ∷ pos 0 ∷ []
+channel_words (Ok a) =
+    a.at.sigma ∷ a.at.tau ∷ a.at.pi ∷ pos a.density ∷ pos a.bulk
+    ∷ pos (remark_number a.remarks.salinity) ∷ pos (remark_number a.remarks.temperature) ∷ pos (remark_number a.remarks.pressure) ∷ []
+channel_words (Err r) = pos 0 ∷ pos 0 ∷ pos 0 ∷ pos 0 ∷ pos 0 ∷ pos 0 ∷ pos 0 ∷ pos 0 ∷ []
 
 -- the two densities, 0 where refused, and the needle, 0 if refused
 abbrev pub comparison_words : Comparison → List ℤ
@@ -49,10 +47,10 @@ pair_words x =
     ∷ pos (needle_number x.needle) ∷ needle_value x.needle ∷ []
 
 -- the k-th pair of a stream: 1 and its words, or 0 and noughts where there is none
-abbrev pub found_number : Found → ℕ
-found_number (Found.There x) = 1
-found_number Found.Nothing = 0
+abbrev pub found_number : Option Comparison → ℕ
+found_number (Some x) = 1
+found_number None = 0
 
-abbrev pub found_words : Found → List ℤ
-found_words (Found.There x) = pair_words x
-found_words Found.Nothing = pos 0 ∷ pos 0 ∷ pos 0 ∷ pos 0 ∷ pos 0 ∷ pos 0 ∷ pos 0 ∷ pos 0 ∷ []
+abbrev pub found_words : Option Comparison → List ℤ
+found_words (Some x) = pair_words x
+found_words None = pos 0 ∷ pos 0 ∷ pos 0 ∷ pos 0 ∷ pos 0 ∷ pos 0 ∷ pos 0 ∷ pos 0 ∷ []

@@ -3,12 +3,10 @@
 
 ghost use Rattle.std.specs.Prelude.{◌≡◌};
 ghost use Rattle.std.proofs.lemmas.List.Edits.{sets};
-ghost use Rattle.streams.specs.declared.Found.TheVariants.{Nothing};
-ghost use Rattle.abi.specs.Abi.{unread_of, entry_of, pair_words, found_words};
+ghost use Rattle.abi.specs.Abi.{unread_of, entry_of, found_words};
 
 use channels::Comparison;
-use kinds::Kind;
-use readings::Entry;
+use readings::{Entry, Message};
 use refusals::Unread;
 
 // Why there is no reading, by a kind that the table does not have. No record has 65,536 plus 6 or 8 for a kind: they stand for one that was refused by 6 or 8.
@@ -23,49 +21,35 @@ fn unread(kind: u32) -> Unread
     }
 }
 
-// What a kind, a probe's number and three floats stand for. The number is taken with either of a report's two kinds.
+// What a kind, a probe's number and three floats, as a C call has them, stand for. The number is taken with either of a report's two kinds.
+#[tactic(auto, unfolding(crate::specs::Abi::entry_of))]
 pub fn entry_of(kind: u32, probe: u16, salinity: f32, temperature: f32, pressure: f32) -> Entry
     ensures { result ≡ entry_of kind probe salinity temperature pressure }
 {
-    match kinds::kind_of(kind as usize) {
-        Kind::Known(row) => {
-            let holds = row.holds;
-            Entry::Reading {
-                probe,
-                report: holds.report(salinity, temperature, pressure),
-            }
-        }
-        Kind::Unknown => Entry::Refused(unread(kind)),
-    }
+    let Some(row) = kinds::kind_of(kind as usize) else {
+        return Err(unread(kind));
+    };
+    Ok(Message {
+        probe,
+        report: row.holds.report(salinity, temperature, pressure),
+    })
 }
 
-// Refusal, density and bulk modulus of both sides, refusal and value of the needle.
-pub fn put_pair(pair: Comparison, out: &mut [i64; 8])
-    ensures { out.new ≡ sets out.old 0 (pair_words pair) }
+// Refusal, density and bulk modulus of both sides, refusal and value of the needle; noughts where there is no pair.
+pub fn put_pair(found: Option<Comparison>, out: &mut [i64; 8])
+    ensures { out.new ≡ sets out.old 0 (found_words found) }
 {
-    let l = pair.left;
-    let r = pair.right;
-    let needle = pair.needle;
-    out[0] = l.number() as i64;
-    out[1] = l.density() as i64;
-    out[2] = l.bulk() as i64;
-    out[3] = r.number() as i64;
-    out[4] = r.density() as i64;
-    out[5] = r.bulk() as i64;
-    out[6] = needle.number() as i64;
-    out[7] = needle.value();
-}
-
-// The same of a pair that is not there.
-pub fn put_noughts(out: &mut [i64; 8])
-    ensures { out.new ≡ sets out.old 0 (found_words Nothing) }
-{
-    out[0] = 0;
-    out[1] = 0;
-    out[2] = 0;
-    out[3] = 0;
-    out[4] = 0;
-    out[5] = 0;
-    out[6] = 0;
-    out[7] = 0;
+    *out = match found {
+        Some(pair) => [
+            refusals::number(&pair.left) as i64,
+            channels::density(pair.left) as i64,
+            channels::bulk(pair.left) as i64,
+            refusals::number(&pair.right) as i64,
+            channels::density(pair.right) as i64,
+            channels::bulk(pair.right) as i64,
+            channels::number(pair.needle) as i64,
+            channels::value(pair.needle),
+        ],
+        None => [0; 8],
+    };
 }

@@ -2,12 +2,8 @@
 -- dropped clause breaks these laws. Assumes nothing.
 use mathlib.Core.Path.{◌≡◌, sym, ◌∙◌}
 use contract.Lifetimes
-use Rattle.carbon.proofs.Solubility.number.Reads as number
-use Rattle.carbon.proofs.Solubility.value.Reads as value
+use Rattle.carbon.proofs.value.Reads as value
 use Rattle.carbon.proofs.answer.Reads as answer
-
-pub one_number : (κs : Lifetimes.Lfts 0) (a : _) (r r' : _) (s s' : _) → number.Learnt κs a r s → number.Learnt κs a r' s' → r ≡ r'
-one_number κs a r r' s s' e f = e ∙ sym f
 
 pub one_value : (κs : Lifetimes.Lfts 0) (a : _) (r r' : _) (s s' : _) → value.Learnt κs a r s → value.Learnt κs a r' s' → r ≡ r'
 one_value κs a r r' s s' e f = e ∙ sym f
@@ -16,9 +12,6 @@ pub one_answer : (κs : Lifetimes.Lfts 0) (a : _) (r r' : _) (s s' : _) → answ
 one_answer κs a r r' s s' e f = e ∙ sym f
 
 -- ---- nothing is asked of the caller: `Asked` is what a contract requires
-pub free_number : (κs : Lifetimes.Lfts 0) (a : _) → number.Asked κs a
-free_number κs a = tt
-
 pub free_value : (κs : Lifetimes.Lfts 0) (a : _) → value.Asked κs a
 free_value κs a = tt
 

@@ -21,9 +21,6 @@ module _ (x y : ℕ) (s : Small x y) where
   pub square_large : 328_500_922_500 ≤ y * y
   square_large = mul-le-mul s.1.0 s.1.0
 
-  pub square_most : y * y ≤ 375_952_922_500
-  square_most = mul-le-mul s.1.1 s.1.1
-
   -- the next power is no greater
   pub next_small : (p P : ℕ) → p ≤ P → p * (x * x) / (y * y) ≤ P
   next_small p P h =

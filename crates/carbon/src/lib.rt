@@ -4,37 +4,19 @@
 ghost use Rattle.std.specs.Prelude.{◌≡◌, ◌+◌, ◌≤◌, nat_abs};
 ghost use Rattle.whole.specs.Arith.{plus, minus, scaled, row_value};
 ghost use Rattle.carbon.specs.Weiss.{rest_terms, odd, ln_t, by_cold, by_log, salts, kelvin, ln_k0};
-ghost use Rattle.carbon.specs.Carbon.{unpressed, solubility_of, solubility_number, solubility_value};
+ghost use Rattle.carbon.specs.Carbon.{unpressed, solubility_of, solubility_value};
 
-use readings::{Checked, Entry, Purpose, Report};
+use readings::{Entry, Purpose, Report};
 use refusals::Refusal;
 
 // ln K0 in millionths, or why not.
-#[derive(Clone, Copy)]
-pub enum Solubility {
-    Known(i64),
-    Refused(Refusal),
-}
+pub type Solubility = Result<i64, Refusal>;
 
-// The number and the value for each case: a refused one has 0.
-impl Solubility {
-    pub fn number(self) -> u32
-        ensures { result ≡ solubility_number self }
-    {
-        match self {
-            Solubility::Known(_) => 0,
-            Solubility::Refused(why) => why.number(),
-        }
-    }
-
-    pub fn value(self) -> i64
-        ensures { result ≡ solubility_value self }
-    {
-        match self {
-            Solubility::Known(millionths) => millionths,
-            Solubility::Refused(_) => 0,
-        }
-    }
+// The value for each case: a refused one has 0. (Its number is `refusals::number`.)
+pub fn value(answer: Solubility) -> i64
+    ensures { result ≡ solubility_value answer }
+{
+    answer.unwrap_or(0)
 }
 
 // ln 3 in 10^-11, from 16 terms of its series.
@@ -62,12 +44,7 @@ fn ln_t(n: u64) -> u64
     requires n_most { n ≤ 313_150 }
     ensures { result ≡ ln_t n }
 {
-    let x = if n < 300_000 {
-        300_000 - n
-    } else {
-        n - 300_000
-    };
-    let twice = 2 * odd_series(x, n + 300_000);
+    let twice = 2 * odd_series(n.abs_diff(300_000), n + 300_000);
     if n < 300_000 {
         return LN3 - twice;
     }
@@ -114,8 +91,7 @@ fn unpressed(report: Report) -> Report
 {
     match report {
         Report::Deep(salinity, temperature, _) => Report::Surface(salinity, temperature),
-        Report::Surface(salinity, temperature) => Report::Surface(salinity, temperature),
-        Report::Missing => Report::Missing,
+        _ => report,
     }
 }
 
@@ -123,17 +99,10 @@ fn unpressed(report: Report) -> Report
 pub fn answer(entry: Entry) -> Solubility
     ensures { result ≡ solubility_of entry }
 {
-    match entry {
-        Entry::Reading { probe: _, report } => {
-            let shallow = unpressed(report);
-            let Report::Surface(salinity, temperature) = shallow else {
-                return Solubility::Refused(Refusal::Missing);
-            };
-            match readings::check_surface(salinity, temperature, Purpose::Carbon) {
-                Checked::Taken(at, _) => Solubility::Known(ln_k0(at.sigma, at.tau)),
-                Checked::Refused(why) => Solubility::Refused(why),
-            }
-        }
-        Entry::Refused(why) => Solubility::Refused(why.refusal()),
-    }
+    let message = entry?;
+    let Report::Surface(salinity, temperature) = unpressed(message.report) else {
+        return Err(Refusal::Missing);
+    };
+    let taken = readings::check_surface(salinity, temperature, Purpose::Carbon)?;
+    Ok(ln_k0(taken.at.sigma, taken.at.tau))
 }

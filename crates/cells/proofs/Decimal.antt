@@ -1,7 +1,7 @@
 -- Numbers to a base without the bound in their definition: one digit below the base, else the digits of the quotient and one more.
 -- Dividing lowers a number of two digits or more, so the number itself is bound enough. Decimals are to the base 10, words to 256.
 -- Assumes nothing.
-use Prim.Native.Nat.{ℕ, zero, suc, ◌+◌, ◌/◌, ◌%◌, ◌^◌, ◌≤◌, ◌<◌}
+use Prim.Native.Nat.{ℕ, zero, suc, ◌+◌, ◌*◌, ◌/◌, ◌%◌, ◌^◌, ◌≤◌, ◌<◌}
 use mathlib.Core.Path.{◌≡◌, refl, ap, ◌∙◌}
 use mathlib.Core.List.{List, [], ◌∷◌, ◌++◌}
 use mathlib.Core.Bool.{Bool, true, false, cond}
@@ -10,6 +10,8 @@ use native.Mathlib.Nat.{zero-add, div-one, div-div-eq-div-mul, div-lt_iff_lt-mul
 use lib.ListN.{length, length-append}
 use lib.Dec.{ltb}
 use borrow.Author.Tests.{ltb-false, lt-ltb, le-ltb}
+use Rattle.std.specs.Prelude.{Option, Some, None, IfSome, IfNone}
+use Rattle.std.specs.Option.{unwrap_or}
 use Rattle.cells.specs.Cells.{spelled, decimal, word_text}
 
 -- a base, by which a number that is no digit is lowered
@@ -95,3 +97,13 @@ pub decimal_long : (j n : ℕ) → 10 ^ j ≤ n → n < 10 ^ suc j → length (d
 decimal_long j n h l =
     let d : n / 10 ^ j < 10 = (div-lt_iff_lt-mul (ten_pos j)).1 (omega arith) in
     omega (arith, decimal_split j n h, ap length (decimal_small (n / 10 ^ j) d))
+
+-- as many digits as the logarithm and one; 0 has one, and no logarithm
+pub decimal_log :
+    (n : ℕ) (k : Option ℕ) →
+    IfNone k (n ≡ 0) →
+    IfSome k (λ j. 10 ^ j ≤ n) →
+    IfSome k (λ j. n < 10 * 10 ^ j) →
+    unwrap_or k 0 + 1 ≡ length (decimal n)
+decimal_log n None e h l = omega (arith, ap length (decimal_small n (omega arith)))
+decimal_log n (Some j) e h l = omega (arith, decimal_long j n h (omega arith))

@@ -23,11 +23,7 @@ unfolding pointed
 pointed_more zero n h = let z : ◌≡◌ {A = ℕ} 0 1 = omega arith in cc
 pointed_more (suc k) n h = let e : suc k - 1 ≡ k = omega arith in rw e
 
--- no point where there are no places
-pub fixed_none : (k n : ℕ) → k ≡ 0 → decimal n ≡ fixed_text k n
-fixed_none zero n e = refl
-fixed_none (suc k) n e = let z : ◌≡◌ {A = ℕ} 0 1 = omega arith in cc
-
+-- a point wherever there are places
 pub fixed_some : (k n : ℕ) → 1 ≤ k → pointed k n ≡ fixed_text k n
 fixed_some zero n h = let z : ◌≡◌ {A = ℕ} 0 1 = omega arith in cc
 fixed_some (suc k) n h = refl

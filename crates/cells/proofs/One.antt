@@ -24,8 +24,8 @@ pub one_put_number :
 one_put_number κs a r r' s s' e f = (e.past ∙ sym f.past, e.stored ∙ sym f.stored)
 
 pub one_put_row :
-    (κs : Lifetimes.Lfts 3) (a : _) (r r' : _) (s s' : _) → put-row.Learnt κs a r s → put-row.Learnt κs a r' s' →
-    (r ≡ r') × (s.1.1.1.0.now ≡ s'.1.1.1.0.now)
+    (κs : Lifetimes.Lfts 2) (a : _) (r r' : _) (s s' : _) → put-row.Learnt κs a r s → put-row.Learnt κs a r' s' →
+    (r ≡ r') × (s.1.1.0.now ≡ s'.1.1.0.now)
 one_put_row κs a r r' s s' e f = (e.past ∙ sym f.past, e.stored ∙ sym f.stored)
 
 pub one_put_text :

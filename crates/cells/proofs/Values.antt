@@ -10,7 +10,9 @@ use lib.ListN.{length, length-append}
 use lib.IntN.{pos, negsuc}
 use lib.Dec.{ltb}
 use borrow.Author.Tests.{ltb-false}
-use Rattle.cells.specs.Cells.{spelled, decimal, word_text, pointed, Cell, fixed, cell_text, row_text}
+use Rattle.cells.specs.declared.Cell.{Cell}
+use Rattle.cells.specs.declared.Cell.TheVariants.{Fixed}
+use Rattle.cells.specs.Cells.{spelled, decimal, word_text, pointed, cell_text, row_text}
 
 -- digits read from the left
 unfoldable pub value : (base nought : ℕ) → ℕ → List ℕ → ℕ
@@ -82,7 +84,7 @@ fixed_back (suc k) n =
     tenfold a v i g w = omega arith
 
 -- a minus, and the number without it
-pub minus_more : (k n : ℕ) → cell_text (fixed k (negsuc n)) ≡ 45 ∷ cell_text (fixed k (pos (suc n)))
+pub minus_more : (k n : ℕ) → cell_text (Fixed k (negsuc n)) ≡ 45 ∷ cell_text (Fixed k (pos (suc n)))
 unfolding cell_text
 minus_more k n = refl
 

@@ -6,7 +6,8 @@ use native.Mathlib.Omega.{arith}
 use native.Mathlib.Nat.{zero-add, suc-add}
 use lib.ListN.{length, length-append}
 use lib.IntN.{ℤ, pos, negsuc, nat_abs}
-use Rattle.cells.specs.Cells.{decimal, pointed, number_text, Cell, cell_text, row_text}
+use Rattle.cells.specs.declared.Cell.{Cell}
+use Rattle.cells.specs.Cells.{decimal, pointed, number_text, cell_text, row_text}
 use Rattle.cells.proofs.Decimal.{decimal_width}
 use Rattle.cells.proofs.Ends.{one_longer}
 

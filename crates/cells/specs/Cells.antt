@@ -1,6 +1,8 @@
 -- The bytes of a row of cells, of which every printed line is made.
-use Rattle.std.specs.Prelude.{ℕ, zero, suc, ◌+◌, ◌/◌, ◌%◌, ◌≡◌, List, [], ◌∷◌, ◌++◌, cond, length, take, drop, ℤ, pos, negsuc, nat_abs, ltb, eqb}
+use Rattle.std.specs.Prelude.{ℕ, zero, suc, ◌+◌, ◌/◌, ◌%◌, ◌≡◌, List, [], ◌∷◌, ◌++◌, cond, length, take, drop, ℤ, pos, negsuc, ltb}
 use Rattle.std.proofs.lemmas.List.Edits.{sets}
+use Rattle.cells.specs.declared.Cell.{Cell}
+use Rattle.cells.specs.declared.Cell.TheVariants.{Fixed, Refusal, Word}
 
 -- the last k of n's digits to a base, or all of them where there are no more, the highest first; the digit 0 is the byte `nought`
 unfoldable pub spelled : (base nought : ℕ) → ℕ → ℕ → List ℕ
@@ -31,30 +33,15 @@ abbrev pub number_text : ℕ → ℤ → List ℕ
 number_text k (pos n) = fixed_text k n
 number_text k (negsuc n) = 45 ∷ fixed_text k (suc n)
 
--- a cell: a number with k decimal places from its whole number, R and a number, or a word
-pub data Cell : Type 0 where
-  fixed : ℕ → ℤ → Cell
-  refusal : ℕ → Cell
-  word : ℕ → Cell
-
+-- a cell is a number with k decimal places from its whole number, R and a number, or a word; this one has no places
 abbrev pub whole : ℤ → Cell
-whole z = fixed 0 z
+whole z = Fixed 0 z
 
 -- what a cell shows; R is byte 82
 unfoldable pub cell_text : Cell → List ℕ
-cell_text (fixed k z) = number_text k z
-cell_text (refusal n) = 82 ∷ decimal n
-cell_text (word w) = word_text w
-
--- a cell as the code has it, a kind and a value: of kind 82 a refusal, of kind 119 a word, of any other a number with so many decimal places
-unfoldable pub cell_of : ℕ → ℤ → Cell
-cell_of k z = cond (eqb k 82) (refusal (nat_abs z)) (cond (eqb k 119) (word (nat_abs z)) (fixed k z))
-
--- the cells of two lists, kinds and values
-unfoldable pub cells : List ℕ → List ℤ → List Cell
-cells [] values = []
-cells (k ∷ kinds) [] = []
-cells (k ∷ kinds) (z ∷ values) = cell_of k z ∷ cells kinds values
+cell_text (Fixed k z) = number_text k z
+cell_text (Refusal n) = 82 ∷ decimal n
+cell_text (Word w) = word_text w
 
 -- the cells with a separator between them, and a line feed (byte 10) at the end
 unfoldable pub row_text : ℕ → List Cell → List ℕ

@@ -2,30 +2,46 @@
 #![tactic(auto)]
 
 ghost use Rattle.std.specs.Prelude.{◌≡◌};
-ghost use Rattle.channels.specs.Numbers.{channel_number, channel_density, channel_bulk, needle_number, needle_value};
+ghost use Rattle.channels.specs.Numbers.{channel_density, channel_bulk, stop_number, needle_number, needle_value};
 
 use readings::{Point, Remarks};
 use refusals::Refusal;
 
-// A channel's answer: the grid numbers, the shown density in 0.001 kg/m3, the bulk modulus in 0.01 bar, and on which side of its grid point each float
-// lies; or why not.
+// A reading that is accepted: the grid numbers, the shown density in 0.001 kg/m3, the bulk modulus in 0.01 bar, and on which side of its grid point each
+// float lies.
 #[derive(Clone, Copy)]
-pub enum Channel {
-    Accepted {
-        at: Point,
-        density: u32,
-        bulk: u32,
-        remarks: Remarks,
-    },
-    Refused(Refusal),
+pub struct Accepted {
+    pub at: Point,
+    pub density: u32,
+    pub bulk: u32,
+    pub remarks: Remarks,
 }
 
-// The needle: right minus left in 0.001 kg/m3; or 100 plus the left's refusal, or 200 plus the right's.
+// A channel's answer.
+pub type Channel = Result<Accepted, Refusal>;
+
+// Why there is no needle: the left is refused, the right is, or one probe stands on both sides.
 #[derive(Clone, Copy)]
-pub enum Needle {
-    Value(i64),
-    Refused(u32),
+pub enum Stop {
+    Left(Refusal),
+    Right(Refusal),
+    SameProbe,
 }
+
+impl Stop {
+    pub fn number(self) -> u32
+        ensures { result ≡ stop_number self }
+    {
+        match self {
+            Stop::Left(why) => 100 + why.number(),
+            Stop::Right(why) => 200 + why.number(),
+            Stop::SameProbe => Refusal::SameProbe.number(),
+        }
+    }
+}
+
+// The needle: right minus left in 0.001 kg/m3; or why there is none.
+pub type Needle = Result<i64, Stop>;
 
 // Two channels and their needle.
 #[derive(Clone, Copy)]
@@ -35,67 +51,31 @@ pub struct Comparison {
     pub needle: Needle,
 }
 
-// SPEC's number and values for each case: a refused channel has noughts.
-impl Channel {
-    pub fn number(self) -> u32
-        ensures { result ≡ channel_number self }
-    {
-        match self {
-            Channel::Accepted {
-                at: _,
-                density: _,
-                bulk: _,
-                remarks: _,
-            } => 0,
-            Channel::Refused(why) => why.number(),
-        }
-    }
+// SPEC's values for each case: a refused channel has noughts. (Its number is `refusals::number`.)
+pub fn density(channel: Channel) -> u32
+    ensures { result ≡ channel_density channel }
+{
+    channel.map_or(0, |accepted| accepted.density)
+}
 
-    pub fn density(self) -> u32
-        ensures { result ≡ channel_density self }
-    {
-        match self {
-            Channel::Accepted {
-                at: _,
-                density,
-                bulk: _,
-                remarks: _,
-            } => density,
-            Channel::Refused(_) => 0,
-        }
-    }
+pub fn bulk(channel: Channel) -> u32
+    ensures { result ≡ channel_bulk channel }
+{
+    channel.map_or(0, |accepted| accepted.bulk)
+}
 
-    pub fn bulk(self) -> u32
-        ensures { result ≡ channel_bulk self }
-    {
-        match self {
-            Channel::Accepted {
-                at: _,
-                density: _,
-                bulk,
-                remarks: _,
-            } => bulk,
-            Channel::Refused(_) => 0,
-        }
+// SPEC's number and value of a needle.
+pub fn number(needle: Needle) -> u32
+    ensures { result ≡ needle_number needle }
+{
+    match needle {
+        Ok(_) => 0,
+        Err(stop) => stop.number(),
     }
 }
 
-impl Needle {
-    pub fn number(self) -> u32
-        ensures { result ≡ needle_number self }
-    {
-        match self {
-            Needle::Value(_) => 0,
-            Needle::Refused(number) => number,
-        }
-    }
-
-    pub fn value(self) -> i64
-        ensures { result ≡ needle_value self }
-    {
-        match self {
-            Needle::Value(difference) => difference,
-            Needle::Refused(_) => 0,
-        }
-    }
+pub fn value(needle: Needle) -> i64
+    ensures { result ≡ needle_value needle }
+{
+    needle.unwrap_or(0)
 }

@@ -3,7 +3,6 @@
 
 ghost use Rattle.std.specs.Prelude.{◌≤◌, length};
 
-use pages::Filled;
 use std::io::Read;
 
 // The buffer holds more than the 60,000 bytes of the longest stream that has a table: what lies past it makes no difference.
@@ -15,14 +14,16 @@ fn main(rt: HostRuntime) {
 }
 
 fn print(rt: &impl Print, stream: &[u8], out: &mut [u8; tables::TABLE_ROOM]) {
-    let filled = tables::write_table(stream, out);
-    let Filled::Page(k) = filled else {
+    let Ok(k) = tables::write_table(stream, out) else {
         return;
     };
-    show(rt, out, k);
+    // A write that fails ends the table there.
+    if let Some(table) = out.get(..k) {
+        let _ = rt.write_all(table);
+    }
 }
 
-// Reads until the buffer is full, the input ends or a read fails, and answers how many bytes there are at its start.
+// Reads until the buffer is full, the input ends or a read fails, and answers how many bytes there are at its start. (`sheet` has it too, and says why.)
 fn read_whole(from: &mut impl Read, into: &mut [u8]) -> usize
     ensures { result ≤ length into.new }
 {
@@ -34,11 +35,4 @@ fn read_whole(from: &mut impl Read, into: &mut [u8]) -> usize
         }
     }
     n
-}
-
-// A write that fails ends the table there.
-fn show(rt: &impl Print, out: &[u8], k: usize) {
-    if k <= out.len() {
-        let _ = rt.write_all(&out[..k]);
-    }
 }

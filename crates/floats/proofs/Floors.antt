@@ -15,6 +15,7 @@ use Rattle.whole.specs.Arith.{plus, minus, floor_div}
 use Rattle.whole.specs.Order.{◌≼◌}
 use Rattle.whole.proofs.Ints.{size_is, neg_plus, neg_minus, add_is, sub_is, mul_plus, mul_minus, mul_size, Floored, floored, to_≤ℤ, of_≤ℤ, same}
 use Rattle.whole.proofs.Words.{fits_size}
+use Rattle.std.specs.Prelude.{Option, Some, None}
 use Rattle.floats.specs.Grid.{seen_from}
 use Rattle.floats.specs.Pattern.{place_at}
 use Rattle.floats.specs.declared.Remark.TheVariants.{Below, On, Above}
@@ -96,10 +97,10 @@ high_end w d D hi =
     ∙ low_end (pos 0 -ℤ w) d D n
 
 -- ---- the place of w / d
-abbrev pub by_floors : ℤ → ℤ → ℤ → ℤ → ℤ → Place
+abbrev pub by_floors : ℤ → ℤ → ℤ → ℤ → ℤ → Option Place
 by_floors lo hi a b c =
     let g = floor_div (c +ℤ pos 1) 2 in
-    cond (le_z lo a && le_z (pos 0 -ℤ hi) b) (Place.At g (cond (le_z g a) (cond (le_z (pos 0 -ℤ g) b) On Above) Below)) Place.Outside
+    cond (le_z lo a && le_z (pos 0 -ℤ hi) b) (Some (record { number = g; remark = cond (le_z g a) (cond (le_z (pos 0 -ℤ g) b) On Above) Below })) None
 
 pub by_floors_lem : (lo hi w : ℤ) (d : ℕ) → 0 < d → place_at lo hi w d ≡ by_floors lo hi (floor_div w d) (floor_div (pos 0 -ℤ w) d) (floor_div (pos 2 *ℤ w) d)
 unfolding place_at
@@ -145,7 +146,7 @@ between : (a b w : ℤ) (s : ℕ) → nat_abs a < s → nat_abs b < s → a ≼ 
 between a b (pos n) s h k l u = omega (arith, size_is b)
 between a b (negsuc n) s h k l u = omega (arith, size_is a)
 
-pub place_far : (lo hi w : ℤ) (d e : ℕ) → 0 < d → nat_abs lo < e → nat_abs hi < e → e * d ≤ nat_abs w → Place.Outside ≡ place_at lo hi w d
+pub place_far : (lo hi w : ℤ) (d e : ℕ) → 0 < d → nat_abs lo < e → nat_abs hi < e → e * d ≤ nat_abs w → None ≡ place_at lo hi w d
 unfolding place_at
 place_far lo hi w d e D l h f = go (le_z (lo *ℤ pos d) w) (le_z w (hi *ℤ pos d)) (λ t. of_≤ℤ (lo *ℤ pos d) w (le_z_yes t)) (λ t. of_≤ℤ w (hi *ℤ pos d) (le_z_yes t))
   where
@@ -155,7 +156,10 @@ place_far lo hi w d e D l h f = go (le_z (lo *ℤ pos d) w) (le_z w (hi *ℤ pos
     near : (z : ℤ) → nat_abs z < e → nat_abs (z *ℤ pos d) < e * d
     near z h = omega (arith, mul_size z (pos d), mul-lt-mul_of_pos_right h D)
 
-    go : (a b : Bool) → (T a → (lo *ℤ pos d) ≼ w) → (T b → w ≼ (hi *ℤ pos d)) → Place.Outside ≡ cond (a && b) (Place.At g (seen_from (g *ℤ pos d) w)) Place.Outside
+    there : Option Place
+    there = Some (record { number = g; remark = seen_from (g *ℤ pos d) w })
+
+    go : (a b : Bool) → (T a → (lo *ℤ pos d) ≼ w) → (T b → w ≼ (hi *ℤ pos d)) → None ≡ cond (a && b) there None
     go false b g u = refl
     go true false g u = refl
     go true true g u = absurd (omega (arith, f, between (lo *ℤ pos d) (hi *ℤ pos d) w (e * d) (near lo l) (near hi h) (g tt) (u tt)))

@@ -15,6 +15,7 @@ use lib.Ieee.Exact.{HasValue, odd_sign}
 use lib.Ieee.Fits.{down_pos}
 use lib.Ieee.Bits.{of_bits-to_bits}
 use Rattle.whole.proofs.Ints.{mul_plus, mul_minus, mul_size, same}
+use Rattle.std.specs.Prelude.{Option, None}
 use Rattle.floats.specs.Grid.{range, signed, finite, numer, denom, inside, grid_no, remark_of, place_of}
 use Rattle.floats.specs.Pattern.{digits_of, place_at}
 use Rattle.floats.specs.declared.Place.{Place}
@@ -62,11 +63,11 @@ field_value s (suc e) t h = rw (ne_eqb (suc e) 255 (λ q. omega arith), eqb-suc-
     less : (e : ℕ) → suc e - 1 ≡ e
     less e = omega arith
 
-field_end : (lo hi : ℤ) (k : ℕ) (s : Bool) (t : ℕ) → Place.Outside ≡ place_of (range lo hi k) (of_fields binary32 s 255 t)
+field_end : (lo hi : ℤ) (k : ℕ) (s : Bool) (t : ℕ) → None ≡ place_of (range lo hi k) (of_fields binary32 s 255 t)
 unfolding of_fields place_of inside
 field_end lo hi k s t = go (eqb t 0)
   where
-    go : (b : Bool) → Place.Outside ≡ place_of (range lo hi k) (cond b (inf s) nan)
+    go : (b : Bool) → None ≡ place_of (range lo hi k) (cond b (inf s) nan)
     go true = refl
     go false = refl
 
@@ -93,13 +94,13 @@ value_few k s e t h l =
 
 -- ---- the place by the pattern's fields
 module _ (lo hi : ℤ) (k : ℕ) (s : Bool) (e t : ℕ) where
-  abbrev placed : Place
+  abbrev placed : Option Place
   placed = place_of (range lo hi k) (of_fields binary32 s e t)
 
   by_value : e < 255 → placed ≡ place_at lo hi (signed s (digits e t * 2 ^ (e - 1)) *ℤ pos k) (2 ^ 149)
   by_value h = place_value lo hi k (of_fields binary32 s e t) s (digits e t * 2 ^ (e - 1)) (2 ^ 149) (pow_pos 149) (field_value s e t h)
 
-  far : 1 ≤ k → nat_abs lo < 2 ^ 23 → nat_abs hi < 2 ^ 23 → 150 ≤ e → e < 255 → Place.Outside ≡ placed
+  far : 1 ≤ k → nat_abs lo < 2 ^ 23 → nat_abs hi < 2 ^ 23 → 150 ≤ e → e < 255 → None ≡ placed
   far K l h f g =
       place_far lo hi _ (2 ^ 149) (2 ^ 23) (pow_pos 149) l h
       (rw (mul_size, size_signed) (mul-le-mul (mul-le-mul lead (pow_mono many)) K)) ∙ sym (by_value g)
@@ -151,16 +152,16 @@ module _ (lo hi : ℤ) (k : ℕ) (x : Float) (F : T (fits binary32 x)) where
   abbrev n : ℕ
   n = to_bits binary32 x
 
-  own : (p : Place) → p ≡ place_of (range lo hi k) (of_fields binary32 (leb 0x8000_0000 n) (field n) (n % 0x80_0000)) → p ≡ place_of (range lo hi k) x
+  own : (p : Option Place) → p ≡ place_of (range lo hi k) (of_fields binary32 (leb 0x8000_0000 n) (field n) (n % 0x80_0000)) → p ≡ place_of (range lo hi k) x
   own p h = h ∙ ap (place_of (range lo hi k)) (read n ∙ of_bits-to_bits binary32 x F)
 
-  pub outside : 1 ≤ k → nat_abs lo < 2 ^ 23 → nat_abs hi < 2 ^ 23 → 150 ≤ field n → Place.Outside ≡ place_of (range lo hi k) x
-  outside K l h f = own Place.Outside (go (field n) f (eq-or-lt_of_le last))
+  pub outside : 1 ≤ k → nat_abs lo < 2 ^ 23 → nat_abs hi < 2 ^ 23 → 150 ≤ field n → None ≡ place_of (range lo hi k) x
+  outside K l h f = own None (go (field n) f (eq-or-lt_of_le last))
     where
       last : field n ≤ 255
       last = omega arith
 
-      go : (e : ℕ) → 150 ≤ e → (e ≡ 255) ⊎ (e < 255) → Place.Outside ≡ place_of (range lo hi k) (of_fields binary32 (leb 0x8000_0000 n) e (n % 0x80_0000))
+      go : (e : ℕ) → 150 ≤ e → (e ≡ 255) ⊎ (e < 255) → None ≡ place_of (range lo hi k) (of_fields binary32 (leb 0x8000_0000 n) e (n % 0x80_0000))
       go e f (inl q) = rw q (field_end lo hi k (leb 0x8000_0000 n) (n % 0x80_0000))
       go e f (inr u) = far lo hi k (leb 0x8000_0000 n) e (n % 0x80_0000) K l h f u
 

@@ -1,5 +1,5 @@
 -- SPEC, "A reading": a float's exact value as a fraction, the range test on it, its grid number, and on which side of that it lies.
-use Rattle.std.specs.Prelude.{ℕ, ◌*◌, ◌≡◌, Bool, true, false, cond, ◌&&◌, ℤ, pos, neg_ℤ, ◌+ℤ◌, ◌*ℤ◌, ◌≤ℤ◌, ◌<ℤ◌, Float}
+use Rattle.std.specs.Prelude.{ℕ, ◌*◌, ◌≡◌, Bool, true, false, cond, ◌&&◌, ℤ, pos, neg_ℤ, ◌+ℤ◌, ◌*ℤ◌, ◌≤ℤ◌, ◌<ℤ◌, Float, Option, Some, None}
 use Rattle.std.specs.Int.Signed.{le_z}
 use Rattle.std.specs.Float.{nan, inf, fin}
 use Rattle.std.specs.Float.Ieee.{up, down}
@@ -86,5 +86,5 @@ InHalf On k g x = in_steps k x ≡ point_of g x
 InHalf Above k g x = (point_of g x <ℤ in_steps k x) × ((pos 2 *ℤ in_steps k x) <ℤ (pos 2 *ℤ point_of g x +ℤ pos (denom x)))
 
 -- the range test comes before the rounding
-unfoldable pub place_of : Range → Float → Place
-place_of r x = cond (inside r x) (Place.At (grid_no r.steps x) (remark_of r.steps x)) Place.Outside
+unfoldable pub place_of : Range → Float → Option Place
+place_of r x = cond (inside r x) (Some (record { number = grid_no r.steps x; remark = remark_of r.steps x })) None

@@ -6,12 +6,11 @@ ghost use Rattle.floats.specs.Pattern.{digits_of, place_at};
 
 use crate::{Place, Remark};
 
-// Neither a NaN nor an infinity.
+// Neither a NaN nor an infinity, by comparisons alone: the library's own test subtracts.
 pub fn is_finite(x: f32) -> bool
     ensures { result ≡ finite x }
 {
-    let infinity = 1.0f32 / 0.0f32;
-    -infinity < x && x < infinity
+    f32::NEG_INFINITY < x && x < f32::INFINITY
 }
 
 // The digits of a pattern n with n's sign. The leading one is not written: it is there where the exponent's field e is not 0.
@@ -29,32 +28,31 @@ fn digits(n: u32, e: u32) -> i64
 
 // The place of w / 2^s. A shift rounds down, also below 0, so that lo is tested on w and hi on -w. Half steps rounded down,
 // and one more, halved: a half goes up. The same two tests of the number itself tell on which side of it w / 2^s lies.
-fn place_at(w: i64, s: u32, lo: i32, hi: i32) -> Place
+fn place_at(w: i64, s: u32, lo: i32, hi: i32) -> Option<Place>
     requires w_small { nat_abs w < 2 ^ 44 }
     requires shift { s < 64 }
     ensures { result ≡ place_at lo hi w (2 ^ s) }
 {
     let floor = w >> s;
     let minus_ceiling = -w >> s;
-    if lo as i64 <= floor {
-        if -(hi as i64) <= minus_ceiling {
-            let number = ((2 * w >> s) + 1) >> 1;
-            if number <= floor {
-                if -number <= minus_ceiling {
-                    return Place::At(number, Remark::On);
-                }
-                return Place::At(number, Remark::Above);
-            }
-            return Place::At(number, Remark::Below);
-        }
+    if floor < lo as i64 || minus_ceiling < -(hi as i64) {
+        return None;
     }
-    Place::Outside
+    let number = ((2 * w >> s) + 1) >> 1;
+    let remark = if floor < number {
+        Remark::Below
+    } else if minus_ceiling < -number {
+        Remark::Above
+    } else {
+        Remark::On
+    };
+    Some(Place { number, remark })
 }
 
 // The place of x, if the exact product is from lo to hi, ends included: digits times k over a power of two that the exponent's
 // field e tells. From 150 on x is an infinity, or 2^23 and more, beyond both ends. Below 88 the power is 2^63 and more, where
 // the product, under 2^44, rounds as over 2^62.
-pub fn place(x: f32, lo: i32, hi: i32, k: u32) -> Place
+pub fn place(x: f32, lo: i32, hi: i32, k: u32) -> Option<Place>
     requires k_least { 1 ≤ k }
     requires k_most { k ≤ 2 ^ 20 }
     requires lo_small { nat_abs lo < 2 ^ 23 }
@@ -62,12 +60,12 @@ pub fn place(x: f32, lo: i32, hi: i32, k: u32) -> Place
     ensures { result ≡ place_of (range lo hi k) x }
 {
     if x != x {
-        return Place::Outside;
+        return None;
     }
     let n = f32::to_bits(x);
     let e = n % 0x8000_0000 / 0x80_0000;
     if 150 <= e {
-        return Place::Outside;
+        return None;
     }
     let s = if e < 88 { 62 } else { 150 - e };
     let w = digits(n, e) * (k as i64);

@@ -2,7 +2,7 @@
 // bytes. The inside of the engine: what `grid::place` asks for keeps its words from overflowing, and the calls above it see to it.
 #![tactic(auto)]
 
-ghost use Rattle.std.specs.Prelude.{◌≡◌};
+ghost use Rattle.std.specs.Prelude.{◌≡◌, slice_index};
 ghost use Rattle.floats.specs.Grid.{remark_number};
 ghost use Rattle.floats.specs.Recorder.{recorder_of};
 ghost use Rattle.floats.specs.Bytes.{float_of};
@@ -12,9 +12,9 @@ pub mod grid;
 // On which side of its grid point a float's exact value lies.
 #[derive(Clone, Copy)]
 pub enum Remark {
-    Below,
-    On,
-    Above,
+    Below = 1,
+    On = 2,
+    Above = 3,
 }
 
 impl Remark {
@@ -22,19 +22,15 @@ impl Remark {
     pub fn number(self) -> u32
         ensures { result ≡ remark_number self }
     {
-        match self {
-            Remark::Below => 1,
-            Remark::On => 2,
-            Remark::Above => 3,
-        }
+        self as u32
     }
 }
 
-// The answer of a range check: where a float stands on its grid, and on which side of that point it lies.
+// Where a float inside its range stands on its grid, and on which side of that point it lies.
 #[derive(Clone, Copy)]
-pub enum Place {
-    At(i64, Remark),
-    Outside,
+pub struct Place {
+    pub number: i64,
+    pub remark: Remark,
 }
 
 // The float for the recorder: the cast is exact, and the float stands for the shown number alone. No density reaches 16,384,000.
@@ -49,10 +45,10 @@ pub fn recorder(shown: u32) -> f32
 }
 
 // The float whose bit pattern stands in four bytes, the lowest first. Every NaN's pattern gives the one NaN.
-pub fn float_of(a: u8, b: u8, c: u8, d: u8) -> f32
-    ensures { result ≡ float_of a b c d }
+pub fn float_of(bytes: [u8; 4]) -> f32
+    ensures { result ≡ float_of (slice_index bytes 0) (slice_index bytes 1) (slice_index bytes 2) (slice_index bytes 3) }
 {
-    let n = (a as u32) + 256 * ((b as u32) + 256 * ((c as u32) + 256 * (d as u32)));
+    let n = u32::from_le_bytes(bytes);
     if 0x7f80_0000 < n % 0x8000_0000 {
         0.0 / 0.0
     } else {

@@ -13,7 +13,8 @@ pub enum Phase {
     Frozen,
 }
 
-// The freezing point of a salinity under a pressure, in 10^-9 degrees.
+// The freezing point of a salinity under a pressure, in 10^-9 degrees. (It asks for plain numbers of the grid, as `phase_at` does: both are promised so in
+// docs/PROMISES.md.)
 pub fn point_at(sigma: i64, pi: i64) -> i64
     requires salinity { Lies (pos 0) (pos 42_000) sigma }
     requires pressure { Lies (pos 0) (pos 100_000) pi }

@@ -5,30 +5,32 @@ use mathlib.Core.List.{List}
 use mathlib.Core.Bool.{Bool, true, false, cond}
 use lib.ListN.{length}
 use lib.Dec.{ltb}
+use Rattle.std.specs.Prelude.{Result, Ok, Err}
+use Rattle.refusals.specs.declared.Refusal.{Refusal}
 use Rattle.refusals.specs.declared.Refusal.TheVariants.{Room}
-use Rattle.lines.specs.declared.Check.{Check}
-use Rattle.lines.specs.declared.Check.TheVariants.{Passed, Failed}
 use Rattle.lines.specs.Line.{room_check}
-use Rattle.pages.specs.declared.Filled.TheVariants.{Page, Refused}
 use Rattle.pages.specs.Page.{filled_number, filled_count, page_checked, filled_with}
 
 -- the answer, from the check's outcome
-pub filled_is : (least len : ℕ) (text : List ℕ) (x : Check) → x ≡ room_check least len → page_checked x (length text) ≡ filled_with least len text
+pub filled_is : (least len : ℕ) (text : List ℕ) (x : Bool) → x ≡ room_check least len → page_checked x (length text) ≡ filled_with least len text
 unfolding filled_with
-filled_is least len text x e = ap (λ (c : Check). page_checked c (length text)) e
+filled_is least len text x e = ap (λ (c : Bool). page_checked c (length text)) e
 
 -- 30 for too little room
 pub filled_number_lem : (least len : ℕ) (text : List ℕ) → filled_number (filled_with least len text) ≡ cond (ltb len least) 30 0
 unfolding filled_with
 filled_number_lem least len text = go (ltb len least) (length text)
   where
-    go : (x : Bool) (k : ℕ) → filled_number (page_checked (cond x Failed Passed) k) ≡ cond x 30 0
+    go : (x : Bool) (k : ℕ) → filled_number (page_checked (cond x false true) k) ≡ cond x 30 0
     go true k = refl
     go false k = refl
 
 -- the number and count of each answer, in numbers
-pub written_page : (filled_number (Page 63) ≡ 0) × (filled_count (Page 63) ≡ 63)
+abbrev page_of_63 : Result ℕ Refusal
+page_of_63 = Ok 63
+
+pub written_page : (filled_number page_of_63 ≡ 0) × (filled_count page_of_63 ≡ 63)
 written_page = (refl, refl)
 
-pub refused_page : (filled_number (Refused Room) ≡ 30) × (filled_count (Refused Room) ≡ 0)
+pub refused_page : (filled_number (Err Room) ≡ 30) × (filled_count (Err Room) ≡ 0)
 refused_page = (refl, refl)

@@ -5,6 +5,7 @@ use contract.Lifetimes
 use Rattle.panel.proofs.answer.Reads as answer
 use Rattle.panel.proofs.entered.Reads as entered
 use Rattle.panel.proofs.beside.Reads as beside
+use Rattle.panel.proofs.channel.Reads as channel
 use Rattle.panel.proofs.shares.Reads as shares
 use Rattle.panel.proofs.needle.Reads as needle
 use Rattle.panel.proofs.paired.Reads as paired
@@ -14,6 +15,9 @@ one_entered κs a r r' s s' e f = e ∙ sym f
 
 pub one_beside : (κs : Lifetimes.Lfts 0) (a : _) (r r' : _) (s s' : _) → beside.Learnt κs a r s → beside.Learnt κs a r' s' → r ≡ r'
 one_beside κs a r r' s s' e f = e ∙ sym f
+
+pub one_channel : (κs : Lifetimes.Lfts 0) (a : _) (r r' : _) (s s' : _) → channel.Learnt κs a r s → channel.Learnt κs a r' s' → r ≡ r'
+one_channel κs a r r' s s' e f = e ∙ sym f
 
 pub one_shares : (κs : Lifetimes.Lfts 0) (a : _) (r r' : _) (s s' : _) → shares.Learnt κs a r s → shares.Learnt κs a r' s' → r ≡ r'
 one_shares κs a r r' s s' e f = e ∙ sym f
@@ -33,6 +37,9 @@ free_entered κs a = tt
 
 pub free_beside : (κs : Lifetimes.Lfts 0) (a : _) → beside.Asked κs a
 free_beside κs a = tt
+
+pub free_channel : (κs : Lifetimes.Lfts 0) (a : _) → channel.Asked κs a
+free_channel κs a = tt
 
 pub free_shares : (κs : Lifetimes.Lfts 0) (a : _) → shares.Asked κs a
 free_shares κs a = tt

@@ -1,7 +1,8 @@
 -- What two sides, each worked out beside the other, say of their channels: the channel of each is its own, and the needle between them is the needle of
 -- the channels. Assumes nothing.
+use Rattle.std.specs.Prelude.{Result, Ok, Err}
 use Prim.Native.Nat.{ℕ, ◌≤◌, max}
-use mathlib.Core.Path.{◌≡◌, refl, ap, ap₂, ◌∙◌}
+use mathlib.Core.Path.{◌≡◌, refl, sym, ap, ap₂, ◌∙◌}
 use mathlib.Core.Bool.{Bool, true, false, cond}
 use native.Mathlib.Omega.{arith}
 use borrow.Author.Tests.{ltb-true, ltb-false}
@@ -17,36 +18,34 @@ use Rattle.refusals.specs.declared.Refusal.{Refusal}
 use Rattle.readings.specs.declared.Point.{Point}
 use Rattle.readings.specs.declared.Remarks.{Remarks}
 use Rattle.readings.specs.declared.Purpose.{Purpose}
-use Rattle.readings.specs.declared.Checked.{Checked}
-use Rattle.readings.specs.declared.Entry.{Entry}
+use Rattle.readings.specs.Check.{Checked, taken_at}
+use Rattle.readings.specs.Entry.{Entry}
 use Rattle.readings.proofs.Answers.{taken_on_grid}
-use Rattle.channels.specs.declared.Channel.{Channel}
-use Rattle.channels.specs.declared.Needle.{Needle}
+use Rattle.channels.specs.Answer.{channel_at}
 use Rattle.panel.specs.declared.Side.{Side}
-use Rattle.panel.specs.declared.Shared.{Shared}
 use Rattle.panel.specs.Panel.{filled, watered_of, entered, checked_channel, channel_of, common, shown_under, shared_of, needle_of, comparison_of}
-use Rattle.panel.specs.Pairing.{pressure_of, common_of, beside_of, needle_between, compared_from}
+use Rattle.panel.specs.Pairing.{pressure_of, common_of, beside_of, channel_beside, needle_between, compared_from}
 use Rattle.panel.proofs.Answers.{on_table}
 use Rattle.panel.proofs.Needles.{common_either}
 
 -- what stands in a channel, put on the grid: a point of the table, or a refusal
 data Placed : Checked → Type 0 where
-  at : (p : Point) (m : Remarks) → OnTable p.sigma p.tau p.pi → Placed (Checked.Taken p m)
-  nowhere : (r : Refusal) → Placed (Checked.Refused r)
+  at : (p : Point) (m : Remarks) → OnTable p.sigma p.tau p.pi → Placed (taken_at p m)
+  nowhere : (r : Refusal) → Placed (Err r)
 
-by_check : (c : Checked) → ((p : Point) (m : Remarks) → c ≡ Checked.Taken p m → OnTable p.sigma p.tau p.pi) → Placed c
-by_check (Checked.Taken p m) t = at p m (t p m refl)
-by_check (Checked.Refused r) t = nowhere r
+by_check : (c : Checked) → ((p : Point) (m : Remarks) → c ≡ taken_at p m → OnTable p.sigma p.tau p.pi) → Placed c
+by_check (Ok a) t = at a.at a.remarks (t a.at a.remarks refl)
+by_check (Err r) t = nowhere r
 
 placed : (e : Entry) → Placed (entered e)
-placed (Entry.Reading n report) = by_check _ (λ p m e. on_table p (taken_on_grid Purpose.Density report p m e))
-placed (Entry.Refused u) = nowhere _
+placed (Ok a) = by_check _ (λ p m e. on_table p (taken_on_grid Purpose.Density a.report p m e))
+placed (Err u) = nowhere _
 
 -- a point on the table is accepted
-accepted_at : (p : Point) (m : Remarks) → OnTable p.sigma p.tau p.pi
-    → watered_of p m ≡ Channel.Accepted p (shown_under (plus p.pi) p) (modulus_at (plus p.sigma) p.tau (plus p.pi)) m
+accepted_on : (p : Point) (m : Remarks) → OnTable p.sigma p.tau p.pi
+    → watered_of p m ≡ channel_at p (shown_under (plus p.pi) p) (modulus_at (plus p.sigma) p.tau (plus p.pi)) m
 unfolding watered_of
-accepted_at p m t = ap (filled p m) (known_on_table p.sigma p.tau p.pi t)
+accepted_on p m t = ap (filled p m) (known_on_table p.sigma p.tau p.pi t)
 
 -- the greater of two pressures that are not negative
 greater : (x y : ℤ) → minus x ≡ 0 → minus y ≡ 0 → cond (lt_z x y) y x ≡ pos (max (plus x) (plus y))
@@ -70,32 +69,36 @@ common_is : {a b : Checked} → Placed a → Placed b → common_of a b ≡ pos 
 unfolding common_of
 common_is {a} {b} h g = greater (pressure_of a) (pressure_of b) (whole h) (whole g)
 
--- a side whose reading was taken, and one that was refused
+-- a side whose reading was taken
 beside_taken : (p : Point) (m : Remarks) {b : Checked} (t : OnTable p.sigma p.tau p.pi) → Placed b →
-    beside_of (Checked.Taken p m) b ≡ record { channel = watered_of p m; under = shown_under (max (plus p.pi) (plus (pressure_of b))) p }
+    beside_of (taken_at p m) b ≡
+    Ok (record {
+      accepted = record { at = p; density = shown_under (plus p.pi) p; bulk = modulus_at (plus p.sigma) p.tau (plus p.pi); remarks = m };
+      under = shown_under (max (plus p.pi) (plus (pressure_of b))) p;
+    })
 unfolding beside_of
 beside_taken p m {b} t g =
     let n = max (plus p.pi) (plus (pressure_of b)) in
     let h : n ≤ 100_000 = omega (arith, most (at p m t), most g) in
-    rw (common_is (at p m t) g, sounding_on_table p.sigma p.tau p.pi (pos n) t (lies_natural h), accepted_at p m t)
+    rw (common_is (at p m t) g, sounding_on_table p.sigma p.tau p.pi (pos n) t (lies_natural h))
 
-beside_refused : (r : Refusal) (b : Checked) → beside_of (Checked.Refused r) b ≡ record { channel = Channel.Refused r; under = 0 }
+beside_refused : (r : Refusal) (b : Checked) → beside_of (Err r) b ≡ Err r
 unfolding beside_of
 beside_refused r b = refl
 
-needle_placed : {a b : Checked} → Placed a → Placed b → (s : Shared) → needle_between (beside_of a b) (beside_of b a) s ≡ needle_of (checked_channel a) (checked_channel b) s
+needle_placed : {a b : Checked} → Placed a → Placed b → (s : Bool) → needle_between (beside_of a b) (beside_of b a) s ≡ needle_of (checked_channel a) (checked_channel b) s
 needle_placed (nowhere r) g s = rw (beside_refused r _) refl
-needle_placed (at p m t) (nowhere r) s = rw (beside_taken p m t (nowhere r), beside_refused r (Checked.Taken p m), accepted_at p m t) refl
-needle_placed (at p m t) (at q n u) Shared.Yes =
-    rw (beside_taken p m t (at q n u), beside_taken q n u (at p m t), accepted_at p m t, accepted_at q n u) refl
-needle_placed (at p m t) (at q n u) Shared.No =
-    rw (beside_taken p m t (at q n u), beside_taken q n u (at p m t), accepted_at p m t, accepted_at q n u) (
-    ap (λ (n : ℕ). Needle.Value (pos (shown_under n q) -ℤ pos (shown_under (common p q) p))) (common_either p q)
+needle_placed (at p m t) (nowhere r) s = rw (beside_taken p m t (nowhere r), beside_refused r (taken_at p m), accepted_on p m t) refl
+needle_placed (at p m t) (at q n u) true =
+    rw (beside_taken p m t (at q n u), beside_taken q n u (at p m t), accepted_on p m t, accepted_on q n u) refl
+needle_placed (at p m t) (at q n u) false =
+    rw (beside_taken p m t (at q n u), beside_taken q n u (at p m t), accepted_on p m t, accepted_on q n u) (
+    ap (λ (n : ℕ). Ok (pos (shown_under n q) -ℤ pos (shown_under (common p q) p))) (common_either p q)
     )
 
-channel_placed : {a b : Checked} → Placed a → Placed b → (beside_of a b).channel ≡ checked_channel a
-channel_placed (at p m t) g = ap (λ (s : Side). s.channel) (beside_taken p m t g)
-channel_placed (nowhere r) g = ap (λ (s : Side). s.channel) (beside_refused r _)
+channel_placed : {a b : Checked} → Placed a → Placed b → channel_beside (beside_of a b) ≡ checked_channel a
+channel_placed (at p m t) g = ap channel_beside (beside_taken p m t g) ∙ sym (accepted_on p m t)
+channel_placed (nowhere r) g = ap channel_beside (beside_refused r _)
 
 compared_beside : (l r : Entry) → compared_from (beside_of (entered l) (entered r)) (beside_of (entered r) (entered l)) (shared_of l r) ≡ comparison_of l r
 unfolding comparison_of channel_of
@@ -104,11 +107,11 @@ compared_beside l r = rw (needle_placed (placed l) (placed r) (shared_of l r), c
 -- ---- of what calls gave, as who makes a pair has it: a and b are what `entered` gave for l and r, x and y what `beside` gave for each beside the other,
 -- f what `shares` gave for both
 pub compared :
-    {a b : Checked} {x y : Side} {f : Shared} (l r : Entry) → a ≡ entered l → b ≡ entered r → x ≡ beside_of a b → y ≡ beside_of b a → f ≡ shared_of l r →
+    {a b : Checked} {x y : Result Side Refusal} {f : Bool} (l r : Entry) → a ≡ entered l → b ≡ entered r → x ≡ beside_of a b → y ≡ beside_of b a → f ≡ shared_of l r →
     compared_from x y f ≡ comparison_of l r
 compared l r p q g h s = rw (g ∙ ap₂ beside_of p q, h ∙ ap₂ beside_of q p, s) (compared_beside l r)
 
 -- and of one alone
-pub alone : {c : Checked} {x : Side} (e : Entry) → c ≡ entered e → x ≡ beside_of c c → x.channel ≡ channel_of e
+pub alone : {c : Checked} {x : Result Side Refusal} (e : Entry) → c ≡ entered e → x ≡ beside_of c c → channel_beside x ≡ channel_of e
 unfolding channel_of
-alone e p f = ap (λ (s : Side). s.channel) (f ∙ ap₂ beside_of p p) ∙ channel_placed (placed e) (placed e)
+alone e p f = ap channel_beside (f ∙ ap₂ beside_of p p) ∙ channel_placed (placed e) (placed e)

@@ -2,9 +2,9 @@
 -- the hatchery asks of a needle.
 -- `Learnt` is a contract as the checker reads it off the source: it says all that a caller is told of the arguments a, the answer and the
 -- state after the call. A dropped or weakened clause breaks these laws. Assumes nothing.
+use Rattle.std.specs.Prelude.{false, Some, Ok}
 use Prim.Native.Nat.{ℕ, ◌≤◌, ◌<◌}
 use mathlib.Core.Path.{◌≡◌, sym, ap, ◌∙◌}
-use mathlib.Core.Option.{some}
 use contract.Lifetimes
 use lib.IntN.{ℤ, pos, neg_ℤ, ◌-ℤ◌}
 use lib.Signed.{◌≤ℤ◌}
@@ -15,12 +15,10 @@ use Rattle.readings.specs.declared.Report.{Report}
 use Rattle.readings.specs.declared.Reading.{Reading}
 use Rattle.readings.specs.declared.Point.{Point}
 use Rattle.readings.specs.declared.Remarks.{Remarks}
-use Rattle.readings.specs.declared.Entry.{Entry}
+use Rattle.readings.specs.Entry.{message}
 use Rattle.readings.specs.Check.{given_of}
-use Rattle.channels.specs.declared.Channel.{Channel}
-use Rattle.channels.specs.declared.Needle.{Needle}
+use Rattle.channels.specs.Answer.{channel_at}
 use Rattle.channels.specs.declared.Comparison.{Comparison}
-use Rattle.panel.specs.declared.Shared.{Shared}
 use Rattle.panel.specs.Panel.{channel_of, common, shared_of, needle_of, comparison_of}
 use Rattle.panel.proofs.answer.Reads as answer
 use Rattle.panel.proofs.paired.Reads as paired
@@ -31,7 +29,7 @@ use Rattle.pledges.specs.Pledges.{formula_under, formula_at, Shows, Sides}
 use Rattle.pledges.proofs.Pledges as pledge
 
 -- ---- one call of `answer`, whose answer r is an accepted channel
-module _ (κs : Lifetimes.Lfts 0) (a : _) (r : _) (s : _) (told : answer.Learnt κs a r s) (p : Point) (d k : ℕ) (m : Remarks) (is : Channel.Accepted p d k m ≡ r) where
+module _ (κs : Lifetimes.Lfts 0) (a : _) (r : _) (s : _) (told : answer.Learnt κs a r s) (p : Point) (d k : ℕ) (m : Remarks) (is : channel_at p d k m ≡ r) where
   -- 1. the density that it shows is within 0.0006 kg/m³ of the formula's, at the point that it gives
   pub shown_within : (x : Frac) → Rooted (plus p.sigma) x → Close d (formula_at p x)
   shown_within x v = pledge.shown_within a.0 p d k m x (is ∙ told) v
@@ -41,30 +39,30 @@ module _ (κs : Lifetimes.Lfts 0) (a : _) (r : _) (s : _) (told : answer.Learnt 
   stiffer_than_pressure = pledge.stiffer_than_pressure a.0 p d k m (is ∙ told)
 
   -- what it shows, of the floats that it was given
-  pub shows : (probe : ℕ) (report : Report) (x : Reading) → a.0 ≡ Entry.Reading probe report → given_of report ≡ some x → Shows x d
+  pub shows : (probe : ℕ) (report : Report) (x : Reading) → a.0 ≡ message probe report → given_of report ≡ Some x → Shows x d
   shows probe report x e g = record { probe = probe; report = report; reading_is = g; point = p; bulk = k; remarks = m; channel_is = is ∙ told ∙ ap channel_of e }
 
 -- ---- one call of `paired`, whose answer has a needle of z
 module _
     (κs : Lifetimes.Lfts 0) (a : _) (r : _) (s : _) (told : paired.Learnt κs a r s)
-    (p q : Point) (d k d' k' : ℕ) (m n : Remarks) (l-is : Channel.Accepted p d k m ≡ r.left) (r-is : Channel.Accepted q d' k' n ≡ r.right) (z : ℤ) (n_is : Needle.Value z ≡ r.needle) where
-  left_is : Channel.Accepted p d k m ≡ channel_of a.0
+    (p q : Point) (d k d' k' : ℕ) (m n : Remarks) (l-is : channel_at p d k m ≡ r.left) (r-is : channel_at q d' k' n ≡ r.right) (z : ℤ) (n_is : Ok z ≡ r.needle) where
+  left_is : channel_at p d k m ≡ channel_of a.0
   unfolding comparison_of
   left_is = l-is ∙ ap (λ (c : Comparison). c.left) told
 
-  right_is : Channel.Accepted q d' k' n ≡ channel_of a.1.0
+  right_is : channel_at q d' k' n ≡ channel_of a.1.0
   unfolding comparison_of
   right_is = r-is ∙ ap (λ (c : Comparison). c.right) told
 
-  needle_is : Needle.Value z ≡ needle_of (channel_of a.0) (channel_of a.1.0) (shared_of a.0 a.1.0)
+  needle_is : Ok z ≡ needle_of (channel_of a.0) (channel_of a.1.0) (shared_of a.0 a.1.0)
   unfolding comparison_of
   needle_is = n_is ∙ ap (λ (c : Comparison). c.needle) told
 
   -- a value: no probe stands on both sides
-  pub apart : shared_of a.0 a.1.0 ≡ Shared.No
+  pub apart : shared_of a.0 a.1.0 ≡ false
   apart = panel.value_apart (channel_of a.0) (channel_of a.1.0) (shared_of a.0 a.1.0) z (sym needle_is)
 
-  value_is : Needle.Value z ≡ needle_of (channel_of a.0) (channel_of a.1.0) Shared.No
+  value_is : Ok z ≡ needle_of (channel_of a.0) (channel_of a.1.0) false
   value_is = needle_is ∙ ap (needle_of (channel_of a.0) (channel_of a.1.0)) apart
 
   -- what the formula says, with a fraction in place of each root
@@ -108,15 +106,15 @@ module _
   level e = panel.taken (value_is ∙ panel.level a.0 a.1.0 p q d k d' k' m n (sym left_is) (sym right_is) e)
 
   -- the same two the other way round: the sign turns
-  pub swapped : (κs' : Lifetimes.Lfts 0) (r' : _) (s' : _) → paired.Learnt κs' (a.1.0, (a.0, a.1.1)) r' s' → r'.needle ≡ Needle.Value (neg_ℤ z)
+  pub swapped : (κs' : Lifetimes.Lfts 0) (r' : _) (s' : _) → paired.Learnt κs' (a.1.0, (a.0, a.1.1)) r' s' → r'.needle ≡ Ok (neg_ℤ z)
   swapped κs' r' s' told' = probes.told_swap_turns κs a r s told κs' r' s' told' z (sym n_is)
 
 -- ---- two calls of `answer` on readings x and y
 module _
     (κs κs' : Lifetimes.Lfts 0) (a b : _) (l r : _) (s t : _) (first : answer.Learnt κs a l s) (second : answer.Learnt κs' b r t)
-    (p q : Point) (d k d' k' : ℕ) (m n : Remarks) (l-is : Channel.Accepted p d k m ≡ l) (r-is : Channel.Accepted q d' k' n ≡ r)
-    (i j : ℕ) (f g : Report) (x y : Reading) (a-is : a.0 ≡ Entry.Reading i f) (b-is : b.0 ≡ Entry.Reading j g)
-    (x-is : given_of f ≡ some x) (y-is : given_of g ≡ some y) where
+    (p q : Point) (d k d' k' : ℕ) (m n : Remarks) (l-is : channel_at p d k m ≡ l) (r-is : channel_at q d' k' n ≡ r)
+    (i j : ℕ) (f g : Report) (x y : Reading) (a-is : a.0 ≡ message i f) (b-is : b.0 ≡ message j g)
+    (x-is : given_of f ≡ Some x) (y-is : given_of g ≡ Some y) where
   -- 3. at the same temperature and pressure saltier water never shows lighter
   pub saltier : Same x.temperature y.temperature → Same x.pressure y.pressure → AtMost x.salinity y.salinity → d ≤ d'
   saltier = pledge.saltier x y d d' (shows κs a l s first p d k m l-is i f x a-is x-is) (shows κs' b r t second q d' k' n r-is j g y b-is y-is)

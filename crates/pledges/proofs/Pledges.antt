@@ -18,8 +18,8 @@ use Rattle.readings.specs.declared.Reading.{Reading}
 use Rattle.readings.specs.declared.Point.{Point}
 use Rattle.readings.specs.declared.Remarks.{Remarks}
 use Rattle.readings.proofs.Reasons.{Gridded}
-use Rattle.readings.specs.declared.Entry.{Entry}
-use Rattle.channels.specs.declared.Channel.{Channel}
+use Rattle.readings.specs.Entry.{Entry, message}
+use Rattle.channels.specs.Answer.{channel_at}
 use Rattle.panel.specs.Panel.{channel_of, common, shown_under, shared_of}
 use Rattle.panel.proofs.Answers.{accepted_gridded}
 use Rattle.panel.proofs.Needles.{value_is}
@@ -29,12 +29,12 @@ use Rattle.promises.proofs.Promises as promise
 use Rattle.pledges.specs.Pledges.{formula_at, AnswerWithin, AnswerStiffer, Shows, SaltierReading, DeeperReading, Sides, NeedleToRight, NeedleToLeft, NeedleNear}
 
 -- an accepted channel's point, in the promises' words
-pub on_grid : (e : Entry) (p : Point) (d k : ℕ) (m : Remarks) → Channel.Accepted p d k m ≡ channel_of e → OnGrid (plus p.sigma) p.tau (plus p.pi)
+pub on_grid : (e : Entry) (p : Point) (d k : ℕ) (m : Remarks) → channel_at p d k m ≡ channel_of e → OnGrid (plus p.sigma) p.tau (plus p.pi)
 on_grid e p d k m h =
     let t = accepted_table e p d k m (sym h) in
     record { salt = (natural t.salinity).most; cold = t.temperature.low; warm = t.temperature.high; deep = (natural t.pressure).most }
 
-pub shows : (e : Entry) (p : Point) (d k : ℕ) (m : Remarks) → Channel.Accepted p d k m ≡ channel_of e → Shown p.sigma p.tau p.pi d k
+pub shows : (e : Entry) (p : Point) (d k : ℕ) (m : Remarks) → channel_at p d k m ≡ channel_of e → Shown p.sigma p.tau p.pi d k
 shows e p d k m h = accepted_shows e p d k m (sym h)
 
 pub shown_within : AnswerWithin
@@ -49,7 +49,7 @@ more {a} {b} h = above_plus a b (of_≤ℤ a b h)
 
 -- of points: the floats' order is the grid numbers'
 saltier_at :
-    (e f : Entry) (p q : Point) (d k c j : ℕ) (m n : Remarks) → Channel.Accepted p d k m ≡ channel_of e → Channel.Accepted q c j n ≡ channel_of f →
+    (e f : Entry) (p q : Point) (d k c j : ℕ) (m n : Remarks) → channel_at p d k m ≡ channel_of e → channel_at q c j n ≡ channel_of f →
     p.tau ≡ q.tau → p.pi ≡ q.pi → p.sigma ≤ℤ q.sigma → d ≤ c
 saltier_at e f p q d k c j m n h i t π s =
     let g = on_grid e p d k m h in
@@ -58,7 +58,7 @@ saltier_at e f p q d k c j m n h i t π s =
     omega (arith, (shows e p d k m h).density_is, l, promise.saltier (plus p.sigma) (plus q.sigma) p.tau (plus p.pi) g g' (more s))
 
 deeper_at :
-    (e f : Entry) (p q : Point) (d k c j : ℕ) (m n : Remarks) → Channel.Accepted p d k m ≡ channel_of e → Channel.Accepted q c j n ≡ channel_of f →
+    (e f : Entry) (p q : Point) (d k c j : ℕ) (m n : Remarks) → channel_at p d k m ≡ channel_of e → channel_at q c j n ≡ channel_of f →
     p.sigma ≡ q.sigma → p.tau ≡ q.tau → p.pi ≤ℤ q.pi → d ≤ c
 deeper_at e f p q d k c j m n h i s t π =
     let g = on_grid e p d k m h in
@@ -79,7 +79,7 @@ pub saltier : SaltierReading
 saltier x y d c a b t p s =
     let g = gridded x d a in
     let h = gridded y c b in
-    saltier_at (Entry.Reading a.probe a.report) (Entry.Reading b.probe b.report) a.point b.point d a.bulk c b.bulk a.remarks b.remarks a.channel_is b.channel_is
+    saltier_at (message a.probe a.report) (message b.probe b.report) a.point b.point d a.bulk c b.bulk a.remarks b.remarks a.channel_is b.channel_is
     (number_same 1000 x.temperature y.temperature _ _ g.tau_is h.tau_is t)
     (number_same 100 x.pressure y.pressure _ _ g.pi_is h.pi_is p)
     (number_order 1000 x.salinity y.salinity _ _ g.sigma_is h.sigma_is s)
@@ -88,7 +88,7 @@ pub deeper : DeeperReading
 deeper x y d c a b s t p =
     let g = gridded x d a in
     let h = gridded y c b in
-    deeper_at (Entry.Reading a.probe a.report) (Entry.Reading b.probe b.report) a.point b.point d a.bulk c b.bulk a.remarks b.remarks a.channel_is b.channel_is
+    deeper_at (message a.probe a.report) (message b.probe b.report) a.point b.point d a.bulk c b.bulk a.remarks b.remarks a.channel_is b.channel_is
     (number_same 1000 x.salinity y.salinity _ _ g.sigma_is h.sigma_is s)
     (number_same 1000 x.temperature y.temperature _ _ g.tau_is h.tau_is t)
     (number_order 100 x.pressure y.pressure _ _ g.pi_is h.pi_is p)

@@ -6,7 +6,7 @@ use lib.IntN.{pos}
 use lib.Ieee.{Float, of_bits}
 use Rattle.whole.specs.Arith.{neg}
 use Rattle.whole.specs.Fraction.{over}
-use Rattle.sea.specs.Recipe.{root_at, bulk}
+use Rattle.sea.specs.Recipe.{root_at}
 use Rattle.floats.specs.Grid.{Same}
 use Rattle.floats.specs.Bytes.{float_of}
 use Rattle.readings.specs.declared.Point.{Point}

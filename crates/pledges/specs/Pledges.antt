@@ -1,7 +1,6 @@
 -- Demand 3 of what the panel's calls return: of a channel that `panel::answer` gives for what stands in it, and of the needle that `panel::paired`
 -- gives. Proved in proofs/Pledges, and in proofs/Calls once more from the contracts of these calls.
-use Rattle.std.specs.Prelude.{ℕ, ◌≤◌, ◌<◌, ◌≡◌, ℤ, pos, ◌≤ℤ◌}
-use Rattle.std.proofs.Math.Option.{some}
+use Rattle.std.specs.Prelude.{ℕ, ◌≤◌, ◌<◌, ◌≡◌, ℤ, pos, ◌≤ℤ◌, Some, Ok}
 use Rattle.whole.specs.Arith.{neg, plus}
 use Rattle.whole.specs.Fraction.{Frac, over, ◌≤F◌, ◌⊖◌}
 use Rattle.floats.specs.Grid.{AtMost, Same}
@@ -10,9 +9,8 @@ use Rattle.readings.specs.declared.Reading.{Reading}
 use Rattle.readings.specs.declared.Point.{Point}
 use Rattle.readings.specs.declared.Remarks.{Remarks}
 use Rattle.readings.specs.Check.{given_of}
-use Rattle.readings.specs.declared.Entry.{Entry}
-use Rattle.channels.specs.declared.Channel.{Channel}
-use Rattle.channels.specs.declared.Needle.{Needle}
+use Rattle.readings.specs.Entry.{Entry, message}
+use Rattle.channels.specs.Answer.{channel_at}
 use Rattle.panel.specs.Panel.{channel_of, common, shared_of, needle_of}
 use Rattle.promises.specs.Formula.{density_f}
 use Rattle.promises.specs.Promises.{Rooted, Within, Close}
@@ -26,21 +24,21 @@ formula_at p x = formula_under (plus p.pi) p x
 
 -- 1. a density that the panel shows is within 0.0006 kg/m³ of the formula's
 abbrev pub AnswerWithin : Type 0
-AnswerWithin = (e : Entry) (p : Point) (d k : ℕ) (m : Remarks) (x : Frac) → Channel.Accepted p d k m ≡ channel_of e → Rooted (plus p.sigma) x → Close d (formula_at p x)
+AnswerWithin = (e : Entry) (p : Point) (d k : ℕ) (m : Remarks) (x : Frac) → channel_at p d k m ≡ channel_of e → Rooted (plus p.sigma) x → Close d (formula_at p x)
 
 -- 2. a bulk modulus that it gives is above the pressure
 abbrev pub AnswerStiffer : Type 0
-AnswerStiffer = (e : Entry) (p : Point) (d k : ℕ) (m : Remarks) → Channel.Accepted p d k m ≡ channel_of e → plus p.pi < k
+AnswerStiffer = (e : Entry) (p : Point) (d k : ℕ) (m : Remarks) → channel_at p d k m ≡ channel_of e → plus p.pi < k
 
 -- the panel shows the density d for a reading, whichever kind of report it came in and whatever its probe's number
 pub record Shows (x : Reading) (d : ℕ) : Type 0 where
   pub probe : ℕ
   pub report : Report
-  pub reading_is : given_of report ≡ some x
+  pub reading_is : given_of report ≡ Some x
   pub point : Point
   pub bulk : ℕ
   pub remarks : Remarks
-  pub channel_is : Channel.Accepted point d bulk remarks ≡ channel_of (Entry.Reading probe report)
+  pub channel_is : channel_at point d bulk remarks ≡ channel_of (message probe report)
 
 -- 3. at the same temperature and pressure saltier water never shows lighter: of the probes' own floats, before any rounding
 abbrev pub SaltierReading : Type 0
@@ -64,11 +62,11 @@ pub record Sides (p q : Point) (x y : Frac) (z : ℤ) : Type 0 where
   pub right_density : ℕ
   pub right_bulk : ℕ
   pub right_remarks : Remarks
-  pub left_is : Channel.Accepted p left_density left_bulk left_remarks ≡ channel_of left
-  pub right_is : Channel.Accepted q right_density right_bulk right_remarks ≡ channel_of right
+  pub left_is : channel_at p left_density left_bulk left_remarks ≡ channel_of left
+  pub right_is : channel_at q right_density right_bulk right_remarks ≡ channel_of right
   pub left_root : Rooted (plus p.sigma) x
   pub right_root : Rooted (plus q.sigma) y
-  pub needle_is : Needle.Value z ≡ needle_of (channel_of left) (channel_of right) (shared_of left right)
+  pub needle_is : Ok z ≡ needle_of (channel_of left) (channel_of right) (shared_of left right)
 
 -- 5. a needle of 2 or more, either way, never names as heavier a water that the formula, with both under the greater of their pressures, makes equal
 -- or lighter

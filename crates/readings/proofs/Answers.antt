@@ -3,7 +3,7 @@
 use Prim.Native.Nat.{ℕ}
 use native.Mathlib.Omega.{arith}
 use mathlib.Core.Path.{◌≡◌, refl, sym, ◌∙◌, subst, ap₂}
-use mathlib.Core.Option.{some}
+use Rattle.std.specs.Prelude.{Option, Some, None, Err}
 use mathlib.Core.Bool.{Bool, true, false, cond}
 use lib.Dec.{T}
 use lib.IntN.{pos}
@@ -15,21 +15,19 @@ use Rattle.floats.specs.declared.Place.{Place}
 use Rattle.floats.specs.declared.Remark.TheVariants.{On}
 use Rattle.floats.proofs.Order.{grid_within}
 use Rattle.floats.proofs.Exact.{zero_on}
-use Rattle.readings.specs.Check.{salinities, temperatures, pressures, deep_of, surface_of, given_of, all_finite, first_outside, placed_for, in_order, checked_for}
+use Rattle.readings.specs.Check.{taken_at, salinities, temperatures, pressures, deep_of, surface_of, given_of, all_finite, first_outside, placed_for, in_order, checked_for}
 use Rattle.readings.proofs.Reasons.{Lying, Gridded, Remarked, Usable, Reason, missing, not_finite, salinity, temperature, pressure, Answered, taken, refused}
 use Rattle.readings.specs.declared.Purpose.{Purpose}
 use Rattle.readings.specs.declared.Report.{Report}
 use Rattle.readings.specs.declared.Reading.{Reading}
 use Rattle.readings.specs.declared.Point.{Point}
 use Rattle.readings.specs.declared.Remarks.{Remarks}
-use Rattle.readings.specs.declared.Finite.{Finite}
-use Rattle.readings.specs.declared.Checked.{Checked}
 
 within : (q : Range) (x : Float) → inside q x ≡ true → (q.low ≤ℤ grid_no q.steps x) × (grid_no q.steps x ≤ℤ q.high)
 within q x e = grid_within q x (subst T (sym e) tt)
 
-abbrev placed : Bool → Range → Float → Place
-placed b q x = cond b (Place.At (grid_no q.steps x) (remark_of q.steps x)) Place.Outside
+abbrev placed : Bool → Range → Float → Option Place
+placed b q x = cond b (Some (record { number = grid_no q.steps x; remark = remark_of q.steps x })) None
 
 module _ (k : Purpose) where
   by_places : (report : Report) (r : Reading) → Usable report r → (a b c : Bool) → inside salinities r.salinity ≡ a
@@ -45,11 +43,11 @@ module _ (k : Purpose) where
       taken r w (record { sigma_is = refl; tau_is = refl; pi_is = refl }) (record { of_salinity = refl; of_temperature = refl; of_pressure = refl })
       (record { sigma_low = σ.0; sigma_high = σ.1; tau_low = τ.0; tau_high = τ.1; pi_low = π.0; pi_high = π.1 })
 
-  with_reading : (report : Report) (r : Reading) → given_of report ≡ some r → (f : Finite) → all_finite report ≡ f
-      → Answered k report (in_order k (some r) f)
+  with_reading : (report : Report) (r : Reading) → given_of report ≡ Some r → (f : Bool) → all_finite report ≡ f
+      → Answered k report (in_order k (Some r) f)
   unfolding placed_for place_of
-  with_reading report r g Finite.No e = refused (not_finite r g e)
-  with_reading report r g Finite.Yes e =
+  with_reading report r g false e = refused (not_finite r g e)
+  with_reading report r g true e =
       by_places report r (record { given = g; finite = e }) (inside salinities r.salinity) (inside (temperatures k) r.temperature)
       (inside pressures r.pressure) refl refl refl
 
@@ -59,33 +57,33 @@ module _ (k : Purpose) where
   answered (Report.Surface s t) = with_reading (Report.Surface s t) (surface_of s t) refl (all_finite (Report.Surface s t)) refl
   answered Report.Missing = refused missing
 
-  pub taken_on_grid : (report : Report) (p : Point) (m : Remarks) → checked_for k report ≡ Checked.Taken p m → Lying k p
+  pub taken_on_grid : (report : Report) (p : Point) (m : Remarks) → checked_for k report ≡ taken_at p m → Lying k p
   taken_on_grid report p m e = go (subst (Answered k report) e (answered report))
     where
-      go : Answered k report (Checked.Taken p m) → Lying k p
+      go : Answered k report (taken_at p m) → Lying k p
       go (taken r w n o g) = g
 
   -- its numbers and its remarks are those of its reading's floats
-  module _ (report : Report) (r : Reading) (p : Point) (m : Remarks) (h : given_of report ≡ some r) (e : checked_for k report ≡ Checked.Taken p m) where
-    one : (q : Reading) → given_of report ≡ some q → q ≡ r
-    one q g = let z : some q ≡ some r = sym g ∙ h in cc
+  module _ (report : Report) (r : Reading) (p : Point) (m : Remarks) (h : given_of report ≡ Some r) (e : checked_for k report ≡ taken_at p m) where
+    one : (q : Reading) → given_of report ≡ Some q → q ≡ r
+    one q g = let z : Some q ≡ Some r = sym g ∙ h in cc
 
     pub taken_gridded : Gridded r p
     taken_gridded = go (subst (Answered k report) e (answered report))
       where
-        go : Answered k report (Checked.Taken p m) → Gridded r p
+        go : Answered k report (taken_at p m) → Gridded r p
         go (taken q w n o g) = subst (λ (x : Reading). Gridded x p) (one q w.given) n
 
     pub taken_remarked : Remarked r m
     taken_remarked = go (subst (Answered k report) e (answered report))
       where
-        go : Answered k report (Checked.Taken p m) → Remarked r m
+        go : Answered k report (taken_at p m) → Remarked r m
         go (taken q w n o g) = subst (λ (x : Reading). Remarked x m) (one q w.given) o
 
-  pub refused_only : (report : Report) (x : Refusal) → checked_for k report ≡ Checked.Refused x → Reason k report x
+  pub refused_only : (report : Report) (x : Refusal) → checked_for k report ≡ Err x → Reason k report x
   refused_only report x e = go (subst (Answered k report) e (answered report))
     where
-      go : Answered k report (Checked.Refused x) → Reason k report x
+      go : Answered k report (Err x) → Reason k report x
       go (refused r) = r
 
   -- and a reason is enough: each of them does refuse
@@ -98,7 +96,7 @@ module _ (k : Purpose) where
   unfolding checked_for
   usable report r w = ap₂ (in_order _) w.given w.finite
 
-  pub reason_refuses : {report : Report} {x : Refusal} → Reason k report x → checked_for k report ≡ Checked.Refused x
+  pub reason_refuses : {report : Report} {x : Refusal} → Reason k report x → checked_for k report ≡ Err x
   unfolding checked_for
   reason_refuses missing = refl
   reason_refuses (not_finite r g f) = ap₂ (in_order _) g f
@@ -107,17 +105,17 @@ module _ (k : Purpose) where
   reason_refuses {report} (pressure r w s t p) = usable report r w ∙ places r true true false s t p
 
   -- ---- a reading that is taken has its salinity inside the range
-  never : {x : Refusal} {p : Point} {m : Remarks} → Checked.Refused x ≡ Checked.Taken p m → ⊥
+  never : {x : Refusal} {p : Point} {m : Remarks} → Err x ≡ taken_at p m → ⊥
   never e = let z : ◌≡◌ {A = ℕ} 0 1 = cc in omega arith
 
-  pub taken_inside : (report : Report) (r : Reading) (p : Point) (m : Remarks) → given_of report ≡ some r → checked_for k report ≡ Checked.Taken p m → T (inside salinities r.salinity)
+  pub taken_inside : (report : Report) (r : Reading) (p : Point) (m : Remarks) → given_of report ≡ Some r → checked_for k report ≡ taken_at p m → T (inside salinities r.salinity)
   taken_inside report r p m g e = go (inside salinities r.salinity) (all_finite report) refl refl
     where
-      go : (b : Bool) (f : Finite) → inside salinities r.salinity ≡ b → all_finite report ≡ f → T b
+      go : (b : Bool) (f : Bool) → inside salinities r.salinity ≡ b → all_finite report ≡ f → T b
       go true f s h = tt
-      go false Finite.No s h = absurd (never (sym (reason_refuses (not_finite r g h)) ∙ e))
-      go false Finite.Yes s h = absurd (never (sym (reason_refuses (salinity r (record { given = g; finite = h }) s)) ∙ e))
+      go false false s h = absurd (never (sym (reason_refuses (not_finite r g h)) ∙ e))
+      go false true s h = absurd (never (sym (reason_refuses (salinity r (record { given = g; finite = h }) s)) ∙ e))
 
   -- a probe at the surface has no pressure that could be off: its remark is on
-  pub surface_on : (s t : Float) (p : Point) (m : Remarks) → checked_for k (Report.Surface s t) ≡ Checked.Taken p m → m.pressure ≡ On
+  pub surface_on : (s t : Float) (p : Point) (m : Remarks) → checked_for k (Report.Surface s t) ≡ taken_at p m → m.pressure ≡ On
   surface_on s t p m e = (taken_remarked (Report.Surface s t) (surface_of s t) p m refl e).of_pressure ∙ (zero_on 100 false (pos 0)).1

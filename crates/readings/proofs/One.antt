@@ -5,6 +5,7 @@ use contract.Lifetimes
 use Rattle.readings.proofs.Purpose.coldest.Reads as coldest
 use Rattle.readings.proofs.Reading.surface.Reads as surface
 use Rattle.readings.proofs.Reading.finite.Reads as finite
+use Rattle.readings.proofs.Report.reading.Reads as reading
 use Rattle.readings.proofs.check.Reads as check
 use Rattle.readings.proofs.check_surface.Reads as check-surface
 
@@ -16,6 +17,9 @@ one_surface κs a r r' s s' e f = e ∙ sym f
 
 pub one_finite : (κs : Lifetimes.Lfts 0) (a : _) (r r' : _) (s s' : _) → finite.Learnt κs a r s → finite.Learnt κs a r' s' → r ≡ r'
 one_finite κs a r r' s s' e f = e ∙ sym f
+
+pub one_reading : (κs : Lifetimes.Lfts 0) (a : _) (r r' : _) (s s' : _) → reading.Learnt κs a r s → reading.Learnt κs a r' s' → r ≡ r'
+one_reading κs a r r' s s' e f = e ∙ sym f
 
 pub one_check : (κs : Lifetimes.Lfts 0) (a : _) (r r' : _) (s s' : _) → check.Learnt κs a r s → check.Learnt κs a r' s' → r ≡ r'
 one_check κs a r r' s s' e f = e ∙ sym f
@@ -32,6 +36,9 @@ free_surface κs a = tt
 
 pub free_finite : (κs : Lifetimes.Lfts 0) (a : _) → finite.Asked κs a
 free_finite κs a = tt
+
+pub free_reading : (κs : Lifetimes.Lfts 0) (a : _) → reading.Asked κs a
+free_reading κs a = tt
 
 pub free_check : (κs : Lifetimes.Lfts 0) (a : _) → check.Asked κs a
 free_check κs a = tt

@@ -1,19 +1,17 @@
 -- What an answer says of its report, in the laws' words: a point on SPEC's grid, or the refusal's reason. Assumes nothing.
 use mathlib.Core.Path.{◌≡◌}
-use mathlib.Core.Option.{some}
+use Rattle.std.specs.Prelude.{Some, Err}
 use mathlib.Core.Bool.{true, false}
 use lib.IntN.{pos}
 use lib.Signed.{◌≤ℤ◌}
 use Rattle.refusals.specs.declared.Refusal.{Refusal}
 use Rattle.floats.specs.Grid.{inside, grid_no, remark_of}
-use Rattle.readings.specs.Check.{coldest, salinities, temperatures, pressures, given_of, all_finite}
+use Rattle.readings.specs.Check.{Checked, taken_at, coldest, salinities, temperatures, pressures, given_of, all_finite}
 use Rattle.readings.specs.declared.Purpose.{Purpose}
 use Rattle.readings.specs.declared.Report.{Report}
 use Rattle.readings.specs.declared.Reading.{Reading}
 use Rattle.readings.specs.declared.Point.{Point}
 use Rattle.readings.specs.declared.Remarks.{Remarks}
-use Rattle.readings.specs.declared.Finite.{Finite}
-use Rattle.readings.specs.declared.Checked.{Checked}
 
 -- σ, τ and π lie within the table
 pub record Lying (w : Purpose) (p : Point) : Type 0 where
@@ -41,13 +39,13 @@ pub record Remarked (r : Reading) (m : Remarks) : Type 0 where
 
 -- the report has the reading r, and its floats are finite
 pub record Usable (report : Report) (r : Reading) : Type 0 where
-  pub given : given_of report ≡ some r
-  pub finite : all_finite report ≡ Finite.Yes
+  pub given : given_of report ≡ Some r
+  pub finite : all_finite report ≡ true
 
 -- each refusal's reason: its own check fails, and the checks before it do not
 pub data Reason (w : Purpose) : Report → Refusal → Type 0 where
   missing : Reason w Report.Missing Refusal.Missing
-  not_finite : {report : Report} (r : Reading) → given_of report ≡ some r → all_finite report ≡ Finite.No → Reason w report Refusal.NotFinite
+  not_finite : {report : Report} (r : Reading) → given_of report ≡ Some r → all_finite report ≡ false → Reason w report Refusal.NotFinite
   salinity : {report : Report} (r : Reading) → Usable report r → inside salinities r.salinity ≡ false → Reason w report Refusal.Salinity
   temperature : {report : Report} (r : Reading) → Usable report r → inside salinities r.salinity ≡ true
       → inside (temperatures w) r.temperature ≡ false → Reason w report Refusal.Temperature
@@ -56,5 +54,5 @@ pub data Reason (w : Purpose) : Report → Refusal → Type 0 where
 
 -- every answer is one of these two
 pub data Answered (w : Purpose) (report : Report) : Checked → Type 0 where
-  taken : {p : Point} {m : Remarks} (r : Reading) → Usable report r → Gridded r p → Remarked r m → Lying w p → Answered w report (Checked.Taken p m)
-  refused : {x : Refusal} → Reason w report x → Answered w report (Checked.Refused x)
+  taken : {p : Point} {m : Remarks} (r : Reading) → Usable report r → Gridded r p → Remarked r m → Lying w p → Answered w report (taken_at p m)
+  refused : {x : Refusal} → Reason w report x → Answered w report (Err x)

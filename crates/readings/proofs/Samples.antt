@@ -4,16 +4,16 @@ use mathlib.Core.List.{List, [], ◌∷◌, map}
 use Prim.Native.Nat.{ℕ}
 use lib.IntN.{ℤ, pos}
 use mathlib.Core.Bool.{false}
+use Rattle.std.specs.Prelude.{Err}
 use lib.Ieee.{Float, fin, binary32, of_bits}
 use Rattle.whole.specs.Arith.{neg}
 use Rattle.refusals.specs.declared.Refusal.{Refusal}
 use Rattle.floats.specs.Grid.{inside, grid_no, remark_of, place_of}
 use Rattle.floats.specs.declared.Remark.{Remark}
 use Rattle.floats.specs.declared.Remark.TheVariants.{Below, On, Above}
-use Rattle.readings.specs.Check.{surface_of, placed_for, checked_for}
+use Rattle.readings.specs.Check.{Checked, taken_at, surface_of, placed_for, checked_for}
 use Rattle.readings.specs.declared.Purpose.{Purpose}
 use Rattle.readings.specs.declared.Report.{Report}
-use Rattle.readings.specs.declared.Checked.{Checked}
 
 pub record Sample : Type 0 where
   pub purpose : Purpose
@@ -32,10 +32,10 @@ carbon s t c = record { purpose = Purpose.Carbon; report = Report.Surface (of_bi
 
 -- the grid numbers, and the remarks beside them
 abbrev point : ℤ → Remark → ℤ → Remark → ℤ → Remark → Checked
-point σ a τ b π c = Checked.Taken (record { sigma = σ; tau = τ; pi = π }) (record { salinity = a; temperature = b; pressure = c })
+point σ a τ b π c = taken_at (record { sigma = σ; tau = τ; pi = π }) (record { salinity = a; temperature = b; pressure = c })
 
 abbrev no : Refusal → Checked
-no = Checked.Refused
+no = Err
 
 unfoldable pub samples : List Sample
 samples =

@@ -2,10 +2,9 @@
 #![tactic(auto)]
 
 ghost use Rattle.std.specs.Prelude.{◌≡◌};
-ghost use Rattle.std.proofs.Math.Option.{some};
 ghost use Rattle.readings.specs.declared.Purpose.{Purpose};
 ghost use Rattle.readings.specs.declared.Report.{Report};
-ghost use Rattle.readings.specs.Check.{coldest, surface_of, finite_of, placed_for, in_order, checked_for, checked_of};
+ghost use Rattle.readings.specs.Check.{coldest, surface_of, given_of, finite_of, level_for, put_together, placed_for, in_order, checked_for, checked_of};
 
 use floats::{Place, Remark, grid};
 use refusals::{Refusal, Unread};
@@ -18,12 +17,15 @@ pub enum Report {
     Missing,
 }
 
-// What stands in a channel: a probe's number, 0 if it has none, and its report; or why its record gave none: 6, 7 or 8 and no other number.
+// What a probe sends: its number, 0 if it has none, and its report.
 #[derive(Clone, Copy)]
-pub enum Entry {
-    Reading { probe: u16, report: Report },
-    Refused(Unread),
+pub struct Message {
+    pub probe: u16,
+    pub report: Report,
 }
+
+// What stands in a channel: a probe's message; or why its record gave none, 6, 7 or 8 and no other number.
+pub type Entry = Result<Message, Unread>;
 
 // Practical salinity, temperature in °C, pressure in bar above the atmosphere.
 #[derive(Clone, Copy)]
@@ -49,11 +51,14 @@ pub struct Remarks {
     pub pressure: Remark,
 }
 
+// A reading that is taken.
 #[derive(Clone, Copy)]
-pub enum Checked {
-    Taken(Point, Remarks),
-    Refused(Refusal),
+pub struct Taken {
+    pub at: Point,
+    pub remarks: Remarks,
 }
+
+pub type Checked = Result<Taken, Refusal>;
 
 // What a reading is wanted for: the table of ranges has a column for each.
 #[derive(Clone, Copy)]
@@ -74,11 +79,31 @@ impl Purpose {
     }
 }
 
-// The answer of check 2.
+impl Taken {
+    // From the places of salinity, temperature and pressure.
+    fn put_together(sigma: Place, tau: Place, pi: Place) -> Taken
+        ensures { result ≡ put_together sigma tau pi }
+    {
+        Taken {
+            at: Point {
+                sigma: sigma.number,
+                tau: tau.number,
+                pi: pi.number,
+            },
+            remarks: Remarks {
+                salinity: sigma.remark,
+                temperature: tau.remark,
+                pressure: pi.remark,
+            },
+        }
+    }
+}
+
+// The places of salinity and temperature.
 #[derive(Clone, Copy)]
-pub enum Finite {
-    Yes,
-    No,
+struct Level {
+    sigma: Place,
+    tau: Place,
 }
 
 impl Reading {
@@ -113,120 +138,105 @@ impl Reading {
     }
 
     // Whether none of the three is a NaN or an infinity.
-    pub fn finite(self) -> Finite
+    pub fn finite(self) -> bool
         ensures { result ≡ finite_of self }
     {
-        if grid::is_finite(self.salinity)
+        grid::is_finite(self.salinity)
             && grid::is_finite(self.temperature)
             && grid::is_finite(self.pressure)
-        {
-            Finite::Yes
-        } else {
-            Finite::No
-        }
+    }
+
+    // Checks 3 and 4. In line at both of its places: out of line ln K0 took a quarter more instructions.
+    #[inline(always)]
+    fn level(self, purpose: Purpose) -> Result<Level, Refusal>
+        ensures { result ≡ level_for purpose self }
+    {
+        let Some(sigma) = grid::place(
+            self.salinity,
+            Reading::SALINITY_LOW,
+            Reading::SALINITY_HIGH,
+            Reading::SALINITY_STEPS,
+        ) else {
+            return Err(Refusal::Salinity);
+        };
+        let Some(tau) = grid::place(
+            self.temperature,
+            purpose.coldest(),
+            Reading::TEMPERATURE_HIGH,
+            Reading::TEMPERATURE_STEPS,
+        ) else {
+            return Err(Refusal::Temperature);
+        };
+        Ok(Level { sigma, tau })
     }
 
     // Checks 3, 4 and 5.
     fn placed(self) -> Checked
         ensures { result ≡ placed_for Purpose.Density self }
     {
-        let Place::At(sigma, salinity) = grid::place(
-            self.salinity,
-            Reading::SALINITY_LOW,
-            Reading::SALINITY_HIGH,
-            Reading::SALINITY_STEPS,
-        ) else {
-            return Checked::Refused(Refusal::Salinity);
-        };
-        let Place::At(tau, temperature) = grid::place(
-            self.temperature,
-            Reading::TEMPERATURE_LOW,
-            Reading::TEMPERATURE_HIGH,
-            Reading::TEMPERATURE_STEPS,
-        ) else {
-            return Checked::Refused(Refusal::Temperature);
-        };
-        let Place::At(pi, pressure) = grid::place(
+        let Level { sigma, tau } = self.level(Purpose::Density)?;
+        let Some(pi) = grid::place(
             self.pressure,
             Reading::PRESSURE_LOW,
             Reading::PRESSURE_HIGH,
             Reading::PRESSURE_STEPS,
         ) else {
-            return Checked::Refused(Refusal::Pressure);
+            return Err(Refusal::Pressure);
         };
-        let remarks = Remarks {
-            salinity,
-            temperature,
-            pressure,
-        };
-        Checked::Taken(Point { sigma, tau, pi }, remarks)
+        Ok(Taken::put_together(sigma, tau, pi))
     }
 
     // Checks 2 to 5.
     fn checked(self) -> Checked
-        ensures { result ≡ in_order Purpose.Density (some self) (finite_of self) }
+        ensures { result ≡ in_order Purpose.Density (Some self) (finite_of self) }
     {
-        let Finite::Yes = self.finite() else {
-            return Checked::Refused(Refusal::NotFinite);
+        let true = self.finite() else {
+            return Err(Refusal::NotFinite);
         };
         self.placed()
     }
 }
 
-// Checks 1 to 5 in SPEC's order, with the density's ranges: the first that applies is the answer. Both kinds of reading call what follows check 1, which keeps it out of line.
+impl Report {
+    // The reading in it: at the surface the pressure is 0.
+    pub fn reading(self) -> Option<Reading>
+        ensures { result ≡ given_of self }
+    {
+        match self {
+            Report::Deep(salinity, temperature, pressure) => Some(Reading {
+                salinity,
+                temperature,
+                pressure,
+            }),
+            Report::Surface(salinity, temperature) => Some(Reading::surface(salinity, temperature)),
+            Report::Missing => None,
+        }
+    }
+}
+
+// Checks 1 to 5 in SPEC's order, with the density's ranges: the first that applies is the answer.
 pub fn check(report: Report) -> Checked
     ensures { result ≡ checked_of report }
 {
-    let Report::Surface(salinity, temperature) = report else {
-        let Report::Deep(salinity, temperature, pressure) = report else {
-            return Checked::Refused(Refusal::Missing);
-        };
-        let reading = Reading {
-            salinity,
-            temperature,
-            pressure,
-        };
-        return reading.checked();
+    let Some(reading) = report.reading() else {
+        return Err(Refusal::Missing);
     };
-    let reading = Reading::surface(salinity, temperature);
     reading.checked()
 }
 
-// Checks 3 and 4 of a reading at the surface, whose pressure has its place already.
-fn placed_at_surface(salinity: f32, temperature: f32, purpose: Purpose) -> Checked
-    ensures { result ≡ placed_for purpose (surface_of salinity temperature) }
-{
-    let coldest = purpose.coldest();
-    let Place::At(sigma, on_salinity) = grid::place(
-        salinity,
-        Reading::SALINITY_LOW,
-        Reading::SALINITY_HIGH,
-        Reading::SALINITY_STEPS,
-    ) else {
-        return Checked::Refused(Refusal::Salinity);
-    };
-    let Place::At(tau, on_temperature) = grid::place(
-        temperature,
-        coldest,
-        Reading::TEMPERATURE_HIGH,
-        Reading::TEMPERATURE_STEPS,
-    ) else {
-        return Checked::Refused(Refusal::Temperature);
-    };
-    let remarks = Remarks {
-        salinity: on_salinity,
-        temperature: on_temperature,
-        pressure: Remark::On,
-    };
-    Checked::Taken(Point { sigma, tau, pi: 0 }, remarks)
-}
-
-// Checks 2 to 4 of a reading at the surface, for a purpose that reads no pressure. It is no case of `check`, which would test the pressure too.
+// Checks 2 to 4 of a reading at the surface, for a purpose that reads no pressure, which has its place already: it is on 0. It is no case of `check`, which
+// would test the pressure too.
 pub fn check_surface(salinity: f32, temperature: f32, purpose: Purpose) -> Checked
     ensures { result ≡ checked_for purpose (Report.Surface salinity temperature) }
 {
-    if grid::is_finite(salinity) && grid::is_finite(temperature) {
-        return placed_at_surface(salinity, temperature, purpose);
-    }
-    Checked::Refused(Refusal::NotFinite)
+    let reading = Reading::surface(salinity, temperature);
+    let true = reading.finite() else {
+        return Err(Refusal::NotFinite);
+    };
+    let Level { sigma, tau } = reading.level(purpose)?;
+    let on_nought = Place {
+        number: 0,
+        remark: Remark::On,
+    };
+    Ok(Taken::put_together(sigma, tau, on_nought))
 }

@@ -1,5 +1,5 @@
 -- SPEC, "Refusal numbers and their order": the number of each refusal.
-use Rattle.std.specs.Prelude.{ℕ}
+use Rattle.std.specs.Prelude.{ℕ, Result, Ok, Err}
 use Rattle.refusals.specs.declared.Refusal.{Refusal}
 use Rattle.refusals.specs.declared.Refusal.TheVariants.{Missing, NotFinite, Salinity, Temperature, Pressure, Cut, Kind, Length, Room, PairNumber, SameProbe}
 use Rattle.refusals.specs.declared.Unread.{Unread}
@@ -31,3 +31,8 @@ abbrev pub refusal_of : Unread → Refusal
 refusal_of Unread.Cut = Cut
 refusal_of Unread.Kind = Kind
 refusal_of Unread.Length = Length
+
+-- the number of an answer: that of its refusal, or 0 where there is none
+abbrev pub answer_number : {A : Type 0} → Result A Refusal → ℕ
+answer_number (Ok a) = 0
+answer_number (Err r) = number_of r

@@ -1,8 +1,8 @@
 -- What the remarks of a channel say of the floats that were sent, from the contract of `panel::answer` itself: `Learnt` is that contract, as the checker reads
 -- it off the source. At the end a real reading for it: 34.999 and -0.1 °C as their nearest floats have them, at 1,000 bar. Assumes nothing.
+use Rattle.std.specs.Prelude.{Some}
 use Prim.Native.Nat.{ℕ}
 use mathlib.Core.Path.{◌≡◌, refl, sym, ap, ◌∙◌, subst}
-use mathlib.Core.Option.{some}
 use contract.Lifetimes
 use lib.IntN.{ℤ, pos}
 use lib.Ieee.{Float}
@@ -16,10 +16,10 @@ use Rattle.readings.specs.declared.Report.{Report}
 use Rattle.readings.specs.declared.Reading.{Reading}
 use Rattle.readings.specs.declared.Point.{Point}
 use Rattle.readings.specs.declared.Remarks.{Remarks}
-use Rattle.readings.specs.declared.Entry.{Entry}
+use Rattle.readings.specs.Entry.{message}
 use Rattle.readings.specs.Check.{deep_of, given_of}
 use Rattle.readings.proofs.Reasons.{Gridded, Remarked}
-use Rattle.channels.specs.declared.Channel.{Channel}
+use Rattle.channels.specs.Answer.{channel_at}
 use Rattle.panel.specs.Panel.{channel_of}
 use Rattle.panel.proofs.Answers.{accepted_gridded, accepted_remarked}
 use Rattle.panel.proofs.Answers as panel
@@ -40,20 +40,20 @@ told_by x p m g o =
     }
 
 -- ---- one call of `answer`, whose answer r is an accepted channel
-module _ (κs : Lifetimes.Lfts 0) (a : _) (r : _) (s : _) (told : answer.Learnt κs a r s) (p : Point) (d k : ℕ) (m : Remarks) (is : Channel.Accepted p d k m ≡ r) where
-  channel_is : (i : ℕ) (report : Report) → a.0 ≡ Entry.Reading i report → channel_of (Entry.Reading i report) ≡ Channel.Accepted p d k m
+module _ (κs : Lifetimes.Lfts 0) (a : _) (r : _) (s : _) (told : answer.Learnt κs a r s) (p : Point) (d k : ℕ) (m : Remarks) (is : channel_at p d k m ≡ r) where
+  channel_is : (i : ℕ) (report : Report) → a.0 ≡ message i report → channel_of (message i report) ≡ channel_at p d k m
   channel_is i report e = sym (is ∙ told ∙ ap channel_of e)
 
   -- the remarks are those of the floats that it was given
-  pub remarks_told : (i : ℕ) (report : Report) (x : Reading) → a.0 ≡ Entry.Reading i report → given_of report ≡ some x → Remarked x m
+  pub remarks_told : (i : ℕ) (report : Report) (x : Reading) → a.0 ≡ message i report → given_of report ≡ Some x → Remarked x m
   remarks_told i report x e g = accepted_remarked i report x p d k m g (channel_is i report e)
 
   -- with the grid numbers they say within which half step each of them lies
-  pub half_steps_told : (i : ℕ) (report : Report) (x : Reading) → a.0 ≡ Entry.Reading i report → given_of report ≡ some x → Told x p m
+  pub half_steps_told : (i : ℕ) (report : Report) (x : Reading) → a.0 ≡ message i report → given_of report ≡ Some x → Told x p m
   half_steps_told i report x e g = told_by x p m (accepted_gridded i report x p d k m g (channel_is i report e)) (remarks_told i report x e g)
 
   -- a probe at the surface: the pressure's is on
-  pub surface_told : (i : ℕ) (x y : Float) → a.0 ≡ Entry.Reading i (Report.Surface x y) → m.pressure ≡ On
+  pub surface_told : (i : ℕ) (x y : Float) → a.0 ≡ message i (Report.Surface x y) → m.pressure ≡ On
   surface_told i x y e = panel.surface_on i x y p d k m (channel_is i (Report.Surface x y) e)
 
 -- ---- a real reading

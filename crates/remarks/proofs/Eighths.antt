@@ -1,7 +1,7 @@
 -- Which floats can be on a grid: a float's denominator is a power of two, so that an odd factor of the steps makes no difference. On a grid of 0.001 it is
 -- on exactly if it is a multiple of 1/8, on one of 0.01 exactly if it is one of 1/4. Assumes nothing.
 use Prim.Native.Nat.{ℕ, zero, suc, ◌+◌, ◌-◌, ◌*◌, ◌^◌}
-use mathlib.Core.Path.{◌≡◌, refl, sym, ap, ◌∙◌}
+use mathlib.Core.Path.{◌≡◌, refl, sym, ap, ◌∙◌, subst}
 use native.Mathlib.Nat.{pow-suc}
 use native.Mathlib.Omega.{arith}
 use lib.IntN.{ℤ, pos, negsuc, ◌-ℤ◌, ◌*ℤ◌}
@@ -58,9 +58,7 @@ module _ (d b : ℕ) (x : Float) where
   parts : (a z : ℕ) → a * ((2 * d + 1) * b) ≡ z * denom x → Multiple (a * b) (denom x)
   parts a z h =
       let p = denom_power x in
-      let e : (2 * d + 1) * (a * b) ≡ a * ((2 * d + 1) * b) = omega arith in
-      let y = odd_factor d p.exponent (a * b) z (e ∙ h ∙ ap (λ (n : ℕ). z * n) p.is) in
-      record { times = y.times; is = y.is ∙ sym (ap (λ (n : ℕ). y.times * n) p.is) }
+      subst (Multiple (a * b)) (sym p.is) (odd_factor d p.exponent (a * b) z (omega (arith, ap (λ (n : ℕ). z * n) p.is)))
 
   pub on_without : remark_of ((2 * d + 1) * b) x ≡ On → remark_of b x ≡ On
   on_without e =

@@ -2,21 +2,20 @@
 -- exactly off the grid. Assumes nothing.
 use Prim.Native.Nat.{ℕ, ◌*◌, ◌≤◌}
 use mathlib.Core.Path.{◌≡◌, refl, ◌∙◌}
+use mathlib.Core.Bool.{Bool, true, false, cond}
 use native.Mathlib.Omega.{arith}
 use lib.IntN.{ℤ, pos}
+use Rattle.std.specs.Prelude.{Err}
 use Rattle.whole.specs.Arith.{plus}
 use Rattle.whole.specs.Paper.{after, rooted}
 use Rattle.whole.proofs.Lines.{rooted_is, ended_rooted, ends, pairs_within}
 use Rattle.refusals.specs.declared.Refusal.{Refusal}
 use Rattle.refusals.specs.declared.Refusal.TheVariants.{Salinity}
-use Rattle.sea.specs.declared.InRange.{InRange}
-use Rattle.sea.specs.declared.InRange.TheVariants.{Inside, Outside}
 use Rattle.sea.specs.Recipe.{root_at}
 use Rattle.sea.specs.Sizes.{Lies}
 use Rattle.sea.specs.Water.{range_of}
 use Rattle.sea.proofs.Answers.{lies_inside, not_outside}
-use Rattle.roots.specs.declared.Search.TheVariants.{Known, Refused}
-use Rattle.roots.specs.Search.{if_inside, search_of}
+use Rattle.roots.specs.Search.{found, search_of}
 
 -- the root on paper is the same number for every salinity
 pub same_root : (σ : ℕ) → σ ≤ 42_000 → rooted (σ * 100_000) ≡ root_at σ
@@ -30,18 +29,21 @@ sixteen σ h j l =
     let e = ends n (omega arith) j (omega (arith, pairs_within n 16 (omega arith) (omega arith))) in
     (e, ended_rooted n j (omega arith) e ∙ same_root σ h)
 
-pub known_on_grid : (σ : ℤ) (j : ℕ) → Lies (pos 0) (pos 42_000) σ → search_of σ j ≡ Known (root_at (plus σ)) (after j (plus σ * 100_000))
+pub known_on_grid : (σ : ℤ) (j : ℕ) → Lies (pos 0) (pos 42_000) σ → search_of σ j ≡ found (root_at (plus σ)) (after j (plus σ * 100_000))
 unfolding search_of
 known_on_grid σ j l = rw (lies_inside (pos 0) (pos 42_000) σ l)
 
-pub refused_only : (σ : ℤ) (j : ℕ) (r : Refusal) → search_of σ j ≡ Refused r → (r ≡ Salinity) × ¬ (Lies (pos 0) (pos 42_000) σ)
+outside_not : (lo hi z : ℤ) → range_of lo hi z ≡ false → ¬ (Lies lo hi z)
+outside_not lo hi z e l = let f = lies_inside lo hi z l in cc
+
+pub refused_only : (σ : ℤ) (j : ℕ) (r : Refusal) → search_of σ j ≡ Err r → (r ≡ Salinity) × ¬ (Lies (pos 0) (pos 42_000) σ)
 unfolding search_of
 refused_only σ j r e = go (range_of (pos 0) (pos 42_000) σ) refl e
   where
-    go : (a : InRange) → range_of (pos 0) (pos 42_000) σ ≡ a → if_inside a (Known (root_at (plus σ)) (after j (plus σ * 100_000))) ≡ Refused r → (r ≡ Salinity) × ¬ (Lies (pos 0) (pos 42_000) σ)
-    go Inside i e = let z : ◌≡◌ {A = ℕ} 0 1 = cc in absurd (omega arith)
-    go Outside i e = (cc, λ (l : Lies (pos 0) (pos 42_000) σ). let f = lies_inside (pos 0) (pos 42_000) σ l in let z : ◌≡◌ {A = ℕ} 0 1 = cc in omega arith)
+    go : (a : Bool) → range_of (pos 0) (pos 42_000) σ ≡ a → cond a (found (root_at (plus σ)) (after j (plus σ * 100_000))) (Err Salinity) ≡ Err r → (r ≡ Salinity) × ¬ (Lies (pos 0) (pos 42_000) σ)
+    go true i e = cc
+    go false i e = (cc, outside_not (pos 0) (pos 42_000) σ i)
 
-pub reason_refuses : (σ : ℤ) (j : ℕ) → ¬ (Lies (pos 0) (pos 42_000) σ) → search_of σ j ≡ Refused Salinity
+pub reason_refuses : (σ : ℤ) (j : ℕ) → ¬ (Lies (pos 0) (pos 42_000) σ) → search_of σ j ≡ Err Salinity
 unfolding search_of
 reason_refuses σ j n = rw (not_outside (pos 0) (pos 42_000) σ n)

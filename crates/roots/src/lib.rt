@@ -5,25 +5,24 @@ ghost use Rattle.std.specs.Prelude.{◌≡◌};
 ghost use Rattle.roots.specs.Search.{search_of};
 
 use refusals::Refusal;
-use sea::InRange;
 use whole::Trial;
 
-// The root, and the line of the paper; or why not.
+// The root, and the line of the paper.
 #[derive(Clone, Copy)]
-pub enum Search {
-    Known { root: u64, line: Trial },
-    Refused(Refusal),
+pub struct Search {
+    pub root: u64,
+    pub line: Trial,
 }
 
 // The root of the grid number sigma (salinity in 0.001) as a reading uses it, and the line of its search after so many trials.
-pub fn search_at(sigma: i64, trials: u32) -> Search
+pub fn search_at(sigma: i64, trials: u32) -> Result<Search, Refusal>
     ensures { result ≡ search_of sigma trials }
 {
-    let InRange::Inside = sea::within(sigma, 0, 42000) else {
-        return Search::Refused(Refusal::Salinity);
+    let true = sea::within(sigma, 0, 42000) else {
+        return Err(Refusal::Salinity);
     };
     let n = whole::unsigned(sigma) * 100000;
     let root = whole::root(n);
     let line = whole::trial_after(n, trials);
-    Search::Known { root, line }
+    Ok(Search { root, line })
 }

@@ -17,8 +17,6 @@ use Rattle.whole.proofs.Ints.{size_is, of_≤ℤ, below_minus, above_plus, pos_p
 use Rattle.whole.proofs.Words.{word, fits_size, size_as}
 use Rattle.whole.proofs.Row.{pad, pad_row}
 use Rattle.whole.proofs.Roots.{root_is}
-use Rattle.sea.specs.declared.InRange.{InRange}
-use Rattle.sea.specs.declared.InRange.TheVariants.{Inside, Outside}
 use Rattle.sea.specs.Table.{table}
 use Rattle.sea.specs.Recipe.{rows_at, root_at, A, B, bulk, bulk_of, parcel_of, parcel_at}
 use Rattle.sea.specs.Sizes.{Lies, Small, Salty, Stiff, Sizes, Ranges}
@@ -45,12 +43,15 @@ natural {n} {z} l =
     let w : minus z ≡ 0 = omega arith in
     record { is = pos_plus z w; whole = w; most = b; size = omega (arith, size_is z) }
 
+pub wider : {m n : ℕ} {z : ℤ} → m ≤ n → Natural m z → Natural n z
+wider h p = record { is = p.is; whole = p.whole; most = omega (arith, h, p.most); size = omega (arith, h, p.size) }
+
 pub lies_natural : {m n : ℕ} → m ≤ n → Lies (pos 0) (pos n) (pos m)
 lies_natural {m} {n} h = let z : 0 ≤ m = omega arith in record { low = le_z_yes (le→leb 0 m z); high = le_z_yes (le→leb m n h) }
 
 -- as it comes back from its word
-pub natural_word : {n : ℕ} {z : ℤ} → SFits w64 z → Lies (pos 0) (pos n) z → word z ≡ pos (plus z)
-natural_word {z = z} f l = to_z-of_z w64 z f ∙ (natural l).is
+pub natural_word : {n : ℕ} {z : ℤ} → n ≤ 100_000 → Lies (pos 0) (pos n) z → word z ≡ pos (plus z)
+natural_word {z = z} h l = small_word z (omega (arith, h, (natural l).size)) ∙ (natural l).is
 
 pub lies_word : {lo hi z : ℤ} → SFits w64 z → Lies lo hi z → Lies lo hi (word z)
 lies_word {lo} {hi} {z} f l = rw (to_z-of_z w64 z f) l
@@ -66,32 +67,30 @@ module _ (x y z σ w : ℤ) (hσ : word σ ≡ pos (plus σ)) (hw : word w ≡ p
   salted_gives = rw (small_word x hx, small_word y hy, small_word z hz, hσ, hw)
 
 -- ---- what the range check shows
-apart : Outside ≡ Inside → ⊥
-apart e = let z : ◌≡◌ {A = ℕ} 0 1 = cc in omega arith
-
-inside : (a b : Bool) → cond a (cond b Inside Outside) Outside ≡ Inside → T a × T b
+inside : (a b : Bool) → cond a b false ≡ true → T a × T b
 inside true true e = (tt, tt)
-inside true false e = absurd (apart e)
-inside false b e = absurd (apart e)
+inside true false e = cc
+inside false b e = cc
 
-pub inside_lies : (lo hi z : ℤ) → range_of lo hi z ≡ Inside → Lies lo hi z
+pub inside_lies : (lo hi z : ℤ) → range_of lo hi z ≡ true → Lies lo hi z
 unfolding range_of
 inside_lies lo hi z e = let p = inside (le_z lo z) (le_z z hi) e in record { low = le_z_yes p.0; high = le_z_yes p.1 }
 
 -- of a number that was passed on, as the check's answer r was found to be x
-pub range_is : (lo hi : ℤ) {z : ℤ} {r x : InRange} → SFits w64 z → r ≡ range_of lo hi (word z) → r ≡ x → range_of lo hi z ≡ x
+pub range_is : (lo hi : ℤ) {z : ℤ} {r x : Bool} → SFits w64 z → r ≡ range_of lo hi (word z) → r ≡ x → range_of lo hi z ≡ x
 range_is lo hi {z} f e g = ap (λ (y : ℤ). range_of lo hi y) (sym (to_z-of_z w64 z f)) ∙ sym e ∙ g
 
 -- ---- the i-th row, as six coefficients, at a temperature of the grid
 abbrev pub padded : ℕ → List ℤ
 padded i = get_or (map (pad 6) table) i []
 
+-- a temperature comes back from its word
+warm_word : {τ : ℤ} → Lies (neg 2_000) (pos 40_000) τ → word τ ≡ τ
+warm_word {τ} l = let b = between 2_000 40_000 τ l.low l.high in small_word τ (omega (arith, size_is τ, b.down, b.up))
+
 -- what `row_value` asks of it
-pub row_asks : (i : ℕ) {τ : ℤ} → SFits w64 τ → Lies (neg 2_000) (pos 40_000) τ →
-    (nat_abs (word τ) ≤ 100_000) × ((k : ℕ) → nat_abs (row_value (drop k (padded i)) (word τ)) ≤ 46_000_000_000_000)
-row_asks i {τ} f l =
-    let b = between 2_000 40_000 τ l.low l.high in
-    rw (to_z-of_z w64 τ f) (omega (arith, size_is τ, b.down, b.up), table_small τ b i)
+pub row_asks : (i : ℕ) {τ : ℤ} → Lies (neg 2_000) (pos 40_000) τ → (k : ℕ) → nat_abs (row_value (drop k (padded i)) (word τ)) ≤ 46_000_000_000_000
+row_asks i {τ} l = rw (warm_word l) (table_small τ (between 2_000 40_000 τ l.low l.high) i)
 
 -- noughts past its end change nothing
 pad_at : (rs : List (List ℤ)) (i : ℕ) (t : ℤ) → row_value (get_or (map (pad 6) rs) i []) t ≡ row_value (get_or rs i []) t
@@ -99,11 +98,11 @@ pad_at [] i t = refl
 pad_at (r ∷ rs) zero t = pad_row 6 r t
 pad_at (r ∷ rs) (suc i) t = pad_at rs i t
 
-pub row_gives : (i : ℕ) {τ : ℤ} → SFits w64 τ → row_value (padded i) (word τ) ≡ row_value (get_or table i []) τ
-row_gives i {τ} f = ap (λ (t : ℤ). row_value (padded i) t) (to_z-of_z w64 τ f) ∙ pad_at table i τ
+pub row_gives : (i : ℕ) {τ : ℤ} → Lies (neg 2_000) (pos 40_000) τ → row_value (padded i) (word τ) ≡ row_value (get_or table i []) τ
+row_gives i {τ} l = ap (λ (t : ℤ). row_value (padded i) t) (warm_word l) ∙ pad_at table i τ
 
 -- ---- a parcel on the grid is what `pressed` asks for
-module _ (σ : ℕ) (τ π : ℤ) (hσ : σ ≤ 42_000) (hτ : Lies (neg 2_000) (pos 40_000) τ) (hπ : Lies (pos 0) (pos 100_000) π) where
+module _ (σ : ℕ) (τ π : ℤ) (hσ : σ ≤ 42_000) (hτ : Lies (neg 2_000) (pos 40_000) τ) (hπ : Natural 100_000 π) where
   warm : Sizes (rows_at τ)
   warm = sizes τ (between 2_000 40_000 τ hτ.low hτ.high)
 
@@ -114,17 +113,16 @@ module _ (σ : ℕ) (τ π : ℤ) (hσ : σ ≤ 42_000) (hτ : Lies (neg 2_000) 
   pub parcel_stiff : Stiff (parcel_at σ τ) π
   unfolding parcel_at parcel_of
   parcel_stiff =
-      let p = natural hπ in
-      let f = fits (rows_at τ) warm σ (root_at σ) hσ root_most (plus π) p.most in
+      let f = fits (rows_at τ) warm σ (root_at σ) hσ root_most (plus π) hπ.most in
       record {
         k0 = f.k0_sum;
         a = f.a_sum;
         b = f.b_sum;
-        inner = subst (λ (z : ℤ). Small (A (rows_at τ) σ (root_at σ) +ℤ scaled (B (rows_at τ) σ) z)) (sym p.is) f.ab_sum;
-        by_π = p.size;
-        whole = p.is;
+        inner = subst (λ (z : ℤ). Small (A (rows_at τ) σ (root_at σ) +ℤ scaled (B (rows_at τ) σ) z)) (sym hπ.is) f.ab_sum;
+        by_π = hπ.size;
+        whole = hπ.is;
       }
 
   pub parcel_ranges : let x = parcel_at σ τ in Ranges x.d (bulk x.k0 x.a x.b (plus π)) (plus π)
   unfolding parcel_at parcel_of bulk_of
-  parcel_ranges = ranges (rows_at τ) warm σ (root_at σ) hσ root_most (plus π) (natural hπ).most
+  parcel_ranges = ranges (rows_at τ) warm σ (root_at σ) hσ root_most (plus π) hπ.most

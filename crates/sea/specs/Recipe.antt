@@ -4,7 +4,7 @@ use Rattle.std.specs.Prelude.{ℕ, ◌+◌, ◌*◌, ◌-◌, ◌/◌, ℤ, pos,
 use Rattle.whole.specs.Arith.{plus, scaled, row_value, root_of}
 use Rattle.sea.specs.declared.Rows.{Rows}
 use Rattle.sea.specs.declared.Parcel.{Parcel}
-use Rattle.sea.specs.declared.State.{State}
+use Rattle.waters.specs.declared.Water.{Water}
 use Rattle.sea.specs.Table.{Dw, Ds, Dr, Dss, Kw, Ks, Kr, Aw, As, Ar, Bw, Bs}
 
 -- the values of the twelve rows at τ
@@ -95,5 +95,5 @@ unfoldable pub parcel_at : ℕ → ℤ → Parcel
 parcel_at σ τ = parcel_of (rows_at τ) σ (root_at σ)
 
 -- a parcel under a pressure
-unfoldable pub pressed_of : Parcel → ℕ → State
+unfoldable pub pressed_of : Parcel → ℕ → Water
 pressed_of x π = let k = bulk x.k0 x.a x.b π in record { density = shown x.d k π; bulk = hundredths k }

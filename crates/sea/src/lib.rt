@@ -1,22 +1,17 @@
 // Density and bulk modulus of sea water from grid numbers.
 #![tactic(auto)]
 
-ghost use Rattle.std.specs.Prelude.{◌≡◌, pos, ◌+ℤ◌};
-ghost use Rattle.whole.specs.Arith.{neg, plus, scaled};
-ghost use Rattle.sea.specs.declared.Sounding.TheVariants.{Known};
+ghost use Rattle.std.specs.Prelude.{◌≡◌, ◌+ℤ◌};
+ghost use Rattle.whole.specs.Arith.{plus, scaled};
 ghost use Rattle.sea.specs.Recipe as the;
-ghost use Rattle.sea.specs.Sizes.{Lies, OnTable, Sizes, Salty, Stiff, Ranges};
-ghost use Rattle.sea.specs.Water.{range_of, water_of, sounding_of};
+ghost use Rattle.sea.specs.Sizes.{Sizes, Salty, Stiff, Ranges};
+ghost use Rattle.sea.specs.Water.{range_of, water_of, sounding, sounding_of};
 
+mod range;
+
+use crate::range::{Pressure, Root, Salinity, Temperature};
 use refusals::Refusal;
 use waters::Water;
-
-// The answer of a range check.
-#[derive(Clone, Copy)]
-pub enum InRange {
-    Inside,
-    Outside,
-}
 
 // The values of the twelve rows at one temperature, in units of 10^-9.
 #[derive(Clone, Copy)]
@@ -44,18 +39,12 @@ pub struct Parcel {
     pub b: i64,
 }
 
-// A water under a pressure: the shown density in 0.001 kg/m3 and the bulk modulus in 0.01 bar.
+// A water at its own pressure, with its density under another one.
 #[derive(Clone, Copy)]
-pub struct State {
+pub struct Sounding {
     pub density: u32,
     pub bulk: u32,
-}
-
-// A water at its own pressure, with its density under another one; or why not.
-#[derive(Clone, Copy)]
-pub enum Sounding {
-    Known { density: u32, bulk: u32, under: u32 },
-    Refused(Refusal),
+    pub under: u32,
 }
 
 // Coefficients in units of 10^-9, lowest power first, noughts past a row's end.
@@ -110,11 +99,11 @@ const ROWS: [[i64; 6]; 12] = [
 ];
 
 // Each row is picked by a constant, so that nothing of the table is left to look up in the compiled code.
-fn rows_at(tau: i64) -> Rows
-    requires { Lies (neg 2_000) (pos 40_000) tau }
-    ensures { result ≡ the.rows_at tau }
+fn rows_at(tau: Temperature) -> Rows
+    ensures { result ≡ the.rows_at tau.number }
 {
     let table = ROWS;
+    let tau = tau.number;
     Rows {
         Dw: whole::row_value(table[0], tau),
         Ds: whole::row_value(table[1], tau),
@@ -132,13 +121,12 @@ fn rows_at(tau: i64) -> Rows
 }
 
 // The surface density D.
-fn surface(r: Rows, sigma: i64, w: i64) -> i64
-    requires rows { Sizes r }
-    requires salinity { Lies (pos 0) (pos 42_000) sigma }
-    requires root { Lies (pos 0) (pos 64_807) w }
-    ensures { result ≡ the.surface r (plus sigma) (plus w) }
+fn surface(r: Rows, sigma: Salinity, w: Root) -> i64
+    requires { Sizes r }
+    ensures { result ≡ the.surface r (plus sigma.number) (plus w.number) }
 {
-    let rooted = whole::step(r.Ds, r.Dr, w);
+    let sigma = sigma.number;
+    let rooted = whole::step(r.Ds, r.Dr, w.number);
     whole::step(r.Dw, whole::step(rooted, r.Dss, sigma), sigma)
 }
 
@@ -151,129 +139,117 @@ fn salted(x: i64, y: i64, z: i64, sigma: i64, w: i64) -> i64
 }
 
 // What the row values and the root make at one salinity.
-fn combined(r: Rows, sigma: i64, w: i64) -> Parcel
-    requires rows { Sizes r }
-    requires salinity { Lies (pos 0) (pos 42_000) sigma }
-    requires root { Lies (pos 0) (pos 64_807) w }
-    ensures { result ≡ the.parcel_of r (plus sigma) (plus w) }
+fn combined(r: Rows, sigma: Salinity, w: Root) -> Parcel
+    requires { Sizes r }
+    ensures { result ≡ the.parcel_of r (plus sigma.number) (plus w.number) }
 {
     let d = surface(r, sigma, w);
-    let k0 = salted(r.Kw, r.Ks, r.Kr, sigma, w);
-    let a = salted(r.Aw, r.As, r.Ar, sigma, w);
-    let b = whole::step(r.Bw, r.Bs, sigma);
+    let k0 = salted(r.Kw, r.Ks, r.Kr, sigma.number, w.number);
+    let a = salted(r.Aw, r.As, r.Ar, sigma.number, w.number);
+    let b = whole::step(r.Bw, r.Bs, sigma.number);
     Parcel { d, k0, a, b }
 }
 
 // The water of one salinity and temperature, before any pressure.
-fn parcel_at(sigma: i64, tau: i64) -> Parcel
-    requires salinity { Lies (pos 0) (pos 42_000) sigma }
-    requires temperature { Lies (neg 2_000) (pos 40_000) tau }
-    ensures { result ≡ the.parcel_at (plus sigma) tau }
+fn parcel_at(sigma: Salinity, tau: Temperature) -> Parcel
+    ensures { result ≡ the.parcel_at (plus sigma.number) tau.number }
 {
     let rows = rows_at(tau);
-    let w = whole::root(whole::unsigned(sigma) * 100000);
-    combined(rows, sigma, whole::signed(w))
+    let w = whole::root(whole::unsigned(sigma.number) * 100000);
+    let number = whole::signed(w);
+    combined(rows, sigma, Root { number })
 }
 
 // The bulk modulus K at a pressure.
-fn bulk(x: Parcel, pi: i64) -> i64
-    requires { Stiff x pi }
-    ensures { result ≡ the.bulk x.k0 x.a x.b (plus pi) }
+fn bulk(x: Parcel, pi: Pressure) -> i64
+    requires { Stiff x pi.number }
+    ensures { result ≡ the.bulk x.k0 x.a x.b (plus pi.number) }
 {
+    let pi = pi.number;
     whole::step(x.k0, whole::step(x.a, x.b, pi), pi)
 }
 
 // The shown density, from D and K in units of 10^-9.
-fn compressed(d: i64, k: i64, pi: i64) -> u32
-    requires pressure { Lies (pos 0) (pos 100_000) pi }
-    requires ranges { Ranges d k (plus pi) }
-    ensures { result ≡ the.shown d k (plus pi) }
+fn compressed(d: i64, k: i64, pi: Pressure) -> u32
+    requires { Ranges d k (plus pi.number) }
+    ensures { result ≡ the.shown d k (plus pi.number) }
 {
-    let p = 1000 * whole::unsigned(pi);
+    let p = 1000 * whole::unsigned(pi.number);
     let m = whole::unsigned(d) / 1000;
     let n = whole::unsigned(k) / 10000 - p;
     ((m + m * p / n + 500) / 1000) as u32
 }
 
 // Density and bulk modulus of a water under a pressure.
-fn pressed(x: Parcel, pi: i64) -> State
-    requires pressure { Lies (pos 0) (pos 100_000) pi }
-    requires stiff { Stiff x pi }
-    requires ranges { Ranges x.d (the.bulk x.k0 x.a x.b (plus pi)) (plus pi) }
-    ensures { result ≡ the.pressed_of x (plus pi) }
+fn pressed(x: Parcel, pi: Pressure) -> Water
+    requires stiff { Stiff x pi.number }
+    requires ranges { Ranges x.d (the.bulk x.k0 x.a x.b (plus pi.number)) (plus pi.number) }
+    ensures { result ≡ the.pressed_of x (plus pi.number) }
 {
     let k = bulk(x, pi);
     let density = compressed(x.d, k, pi);
     let bulk = (whole::unsigned(k) / 10000000) as u32;
-    State { density, bulk }
+    Water { density, bulk }
 }
 
 // The water of a point of the grid, and its density under the pressure `deep`: the rows are worked out once, and at its own pressure nothing twice.
-fn sounded(sigma: i64, tau: i64, pi: i64, deep: i64) -> Sounding
-    requires on_table { OnTable sigma tau pi }
-    requires deep { Lies (pos 0) (pos 100_000) deep }
-    ensures { result ≡ Known (the.shown_at (plus sigma) tau (plus pi)) (the.modulus_at (plus sigma) tau (plus pi)) (the.shown_at (plus sigma) tau (plus deep)) }
+// Out of line, so that the root's code stands in one place.
+#[inline(never)]
+fn sounded(sigma: Salinity, tau: Temperature, pi: Pressure, deep: Pressure) -> Sounding
+    ensures { result ≡ sounding (the.shown_at (plus sigma.number) tau.number (plus pi.number)) (the.modulus_at (plus sigma.number) tau.number (plus pi.number)) (the.shown_at (plus sigma.number) tau.number (plus deep.number)) }
 {
     let water = parcel_at(sigma, tau);
-    let own = pressed(water, pi);
-    if deep == pi {
-        return Sounding::Known {
-            density: own.density,
-            bulk: own.bulk,
-            under: own.density,
+    let Water { density, bulk } = pressed(water, pi);
+    if deep.number == pi.number {
+        return Sounding {
+            density,
+            bulk,
+            under: density,
         };
     }
     let other = pressed(water, deep);
-    Sounding::Known {
-        density: own.density,
-        bulk: own.bulk,
+    Sounding {
+        density,
+        bulk,
         under: other.density,
     }
 }
 
 // Whether z is from low to high, ends included.
-pub fn within(z: i64, low: i64, high: i64) -> InRange
+pub fn within(z: i64, low: i64, high: i64) -> bool
     ensures { result ≡ range_of low high z }
 {
-    if low <= z {
-        if z <= high {
-            return InRange::Inside;
-        }
-    }
-    InRange::Outside
+    low <= z && z <= high
 }
 
 // Density and bulk modulus at the grid numbers sigma (0.001), tau (0.001 degrees) and pi (0.01 bar), and the density of the same water under the
-// pressure `deep`.
-pub fn sounding_at(sigma: i64, tau: i64, pi: i64, deep: i64) -> Sounding
+// pressure `deep`. (Plain numbers, as the C interface gives them.)
+pub fn sounding_at(sigma: i64, tau: i64, pi: i64, deep: i64) -> Result<Sounding, Refusal>
     ensures { result ≡ sounding_of sigma tau pi deep }
 {
-    let InRange::Inside = within(sigma, 0, 42000) else {
-        return Sounding::Refused(Refusal::Salinity);
+    let Some(sigma) = Salinity::of(sigma) else {
+        return Err(Refusal::Salinity);
     };
-    let InRange::Inside = within(tau, -2000, 40000) else {
-        return Sounding::Refused(Refusal::Temperature);
+    let Some(tau) = Temperature::of(tau) else {
+        return Err(Refusal::Temperature);
     };
-    let InRange::Inside = within(pi, 0, 100000) else {
-        return Sounding::Refused(Refusal::Pressure);
+    let Some(pi) = Pressure::of(pi) else {
+        return Err(Refusal::Pressure);
     };
-    let InRange::Inside = within(deep, 0, 100000) else {
-        return Sounding::Refused(Refusal::Pressure);
+    let Some(deep) = Pressure::of(deep) else {
+        return Err(Refusal::Pressure);
     };
-    sounded(sigma, tau, pi, deep)
+    Ok(sounded(sigma, tau, pi, deep))
 }
 
 // Density and bulk modulus alone.
-pub fn water_at(sigma: i64, tau: i64, pi: i64) -> Water
+pub fn water_at(sigma: i64, tau: i64, pi: i64) -> Result<Water, Refusal>
     ensures { result ≡ water_of sigma tau pi }
 {
-    let found = sounding_at(sigma, tau, pi, pi);
-    match found {
-        Sounding::Known {
-            density,
-            bulk,
-            under: _,
-        } => Water::Known { density, bulk },
-        Sounding::Refused(why) => Water::Refused(why),
-    }
+    let Sounding {
+        density,
+        bulk,
+        under: _,
+    } = sounding_at(sigma, tau, pi, pi)?;
+    Ok(Water { density, bulk })
 }

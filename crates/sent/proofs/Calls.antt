@@ -1,7 +1,7 @@
 -- Demand 3 as sent, of what a caller gets: each promise once more, from the contracts of `panel::answer` and `panel::paired` themselves. Assumes nothing.
+use Rattle.std.specs.Prelude.{Some, Ok}
 use Prim.Native.Nat.{ℕ}
 use mathlib.Core.Path.{◌≡◌, ap, ap₂, ◌∙◌}
-use mathlib.Core.Option.{some}
 use contract.Lifetimes
 use lib.IntN.{ℤ, pos}
 use lib.Signed.{◌≤ℤ◌}
@@ -11,10 +11,9 @@ use Rattle.readings.specs.declared.Report.{Report}
 use Rattle.readings.specs.declared.Reading.{Reading}
 use Rattle.readings.specs.declared.Point.{Point}
 use Rattle.readings.specs.declared.Remarks.{Remarks}
-use Rattle.readings.specs.declared.Entry.{Entry}
+use Rattle.readings.specs.Entry.{Entry, message}
 use Rattle.readings.specs.Check.{given_of}
-use Rattle.channels.specs.declared.Channel.{Channel}
-use Rattle.channels.specs.declared.Needle.{Needle}
+use Rattle.channels.specs.Answer.{channel_at}
 use Rattle.channels.specs.declared.Comparison.{Comparison}
 use Rattle.panel.specs.Panel.{channel_of, shared_of, needle_of, comparison_of}
 use Rattle.panel.proofs.answer.Reads as answer
@@ -28,15 +27,15 @@ use Rattle.sent.proofs.Sent as sent
 -- ---- one call of `answer` with a report of the reading r, whose answer is an accepted channel
 pub shown_within :
     (κs : Lifetimes.Lfts 0) (a : _) (c : _) (s : _) → answer.Learnt κs a c s →
-    (p : Point) (d k : ℕ) (m : Remarks) → Channel.Accepted p d k m ≡ c → (probe : ℕ) (report : Report) (r : Reading) → a.0 ≡ Entry.Reading probe report → given_of report ≡ some r →
+    (p : Point) (d k : ℕ) (m : Remarks) → channel_at p d k m ≡ c → (probe : ℕ) (report : Report) (r : Reading) → a.0 ≡ message probe report → given_of report ≡ Some r →
     (x : Frac) → RootOf (v_of r) x → Within (over 14 10_000) (pos d) (sent_at r x)
 shown_within κs a c s told p d k m is probe report r e g x v = sent.shown_within r d x (call.shows κs a c s told p d k m is probe report r e g) v
 
 -- ---- one call of `paired` with reports of the readings l and r, whose answer has a needle of z
 module _
     (κs : Lifetimes.Lfts 0) (a : _) (c : _) (s : _) (told : paired.Learnt κs a c s)
-    (p q : Point) (d k d' k' : ℕ) (m n : Remarks) (l-is : Channel.Accepted p d k m ≡ c.left) (r-is : Channel.Accepted q d' k' n ≡ c.right) (z : ℤ) (n_is : Needle.Value z ≡ c.needle)
-    (i j : ℕ) (f g : Report) (l r : Reading) (a-is : a.0 ≡ Entry.Reading i f) (b-is : a.1.0 ≡ Entry.Reading j g) (l-given : given_of f ≡ some l) (r-given : given_of g ≡ some r) where
+    (p q : Point) (d k d' k' : ℕ) (m n : Remarks) (l-is : channel_at p d k m ≡ c.left) (r-is : channel_at q d' k' n ≡ c.right) (z : ℤ) (n_is : Ok z ≡ c.needle)
+    (i j : ℕ) (f g : Report) (l r : Reading) (a-is : a.0 ≡ message i f) (b-is : a.1.0 ≡ message j g) (l-given : given_of f ≡ Some l) (r-given : given_of g ≡ Some r) where
   pub compares : Compares l r z
   unfolding comparison_of
   compares =

@@ -1,5 +1,6 @@
 -- Nothing here is empty, and 3 and 0.0014 are the best there are: real readings, by their floats' bits. Of two at two depths, a needle of 2 names the
 -- lighter water; one is shown more than 0.0013 kg/m³ from the formula as sent. Assumes nothing.
+use Rattle.std.specs.Prelude.{false, Ok}
 use Prim.Native.Nat.{ℕ}
 use mathlib.Core.Path.{◌≡◌, refl, sym, ap₂}
 use lib.IntN.{pos}
@@ -18,10 +19,8 @@ use Rattle.readings.specs.declared.Report.{Report}
 use Rattle.readings.specs.declared.Reading.{Reading}
 use Rattle.readings.specs.declared.Point.{Point}
 use Rattle.readings.specs.declared.Remarks.{Remarks}
-use Rattle.readings.specs.declared.Entry.{Entry}
-use Rattle.channels.specs.declared.Channel.{Channel}
-use Rattle.channels.specs.declared.Needle.{Needle}
-use Rattle.panel.specs.declared.Shared.{Shared}
+use Rattle.readings.specs.Entry.{message}
+use Rattle.channels.specs.Answer.{Channel, channel_at}
 use Rattle.panel.specs.Panel.{watered_of, channel_of, needle_of}
 use Rattle.panel.proofs.Needles.{swapped}
 use Rattle.panel.proofs.Samples.{deep_needle_is, turned_needle_is}
@@ -34,7 +33,7 @@ use Rattle.sent.proofs.Sent.{root_sent, root_sent_lem}
 abbrev deep : Reading → Report
 deep r = Report.Deep r.salinity r.temperature r.pressure
 
-shows : (r : Reading) (p : Point) (d k : ℕ) (m : Remarks) → channel_of (Entry.Reading 0 (deep r)) ≡ Channel.Accepted p d k m → Shows r d
+shows : (r : Reading) (p : Point) (d k : ℕ) (m : Remarks) → channel_of (message 0 (deep r)) ≡ channel_at p d k m → Shows r d
 shows r p d k m e = record { probe = 0; report = deep r; reading_is = refl; point = p; bulk = k; remarks = m; channel_is = sym e }
 
 -- fresh water at the surface beside salt water at 1,000 bar, and the other way round: needles of 3 or more
@@ -72,18 +71,18 @@ warm_off = record { salinity = Above; temperature = Below; pressure = Above }
 abbrev cool_off : Remarks
 cool_off = record { salinity = Below; temperature = Above; pressure = On }
 
-warm_is : channel_of (Entry.Reading 0 (deep warm)) ≡ Channel.Accepted warm_at 1_022_898 2_441_268 warm_off
+warm_is : channel_of (message 0 (deep warm)) ≡ channel_at warm_at 1_022_898 2_441_268 warm_off
 unfolding of_bits channel_of checked_for placed_for place_of inside grid_no remark_of watered_of water_of range_of scaled row_value root_from root_of Dw Ds Dr Dss Kw Ks Kr Aw As Ar Bw Bs rows_at root_at surface K0 A B bulk hundredths mass net gain density shown bulk_of shown_of shown_at modulus_at
 warm_is = refl
 
-cool_is : channel_of (Entry.Reading 0 (deep cool)) ≡ Channel.Accepted cool_at 1_023_092 2_442_739 cool_off
+cool_is : channel_of (message 0 (deep cool)) ≡ channel_at cool_at 1_023_092 2_442_739 cool_off
 unfolding of_bits channel_of checked_for placed_for place_of inside grid_no remark_of watered_of water_of range_of scaled row_value root_from root_of Dw Ds Dr Dss Kw Ks Kr Aw As Ar Bw Bs rows_at root_at surface K0 A B bulk hundredths mass net gain density shown bulk_of shown_of shown_at modulus_at
 cool_is = refl
 
 -- the needle between them, 1,023,092 − 1,023,090
-two : needle_of (channel_of (Entry.Reading 0 (deep warm))) (channel_of (Entry.Reading 0 (deep cool))) Shared.No ≡ Needle.Value (pos 2)
+two : needle_of (channel_of (message 0 (deep warm))) (channel_of (message 0 (deep cool))) false ≡ Ok (pos 2)
 unfolding scaled row_value root_from root_of Dw Ds Dr Dss Kw Ks Kr Aw As Ar Bw Bs rows_at root_at surface K0 A B bulk mass net gain density shown bulk_of shown_of shown_at
-two = ap₂ (λ (l r : Channel). needle_of l r Shared.No) warm_is cool_is
+two = ap₂ (λ (l r : Channel). needle_of l r false) warm_is cool_is
 
 pub shows_warm : Shows warm 1_022_898
 shows_warm = shows warm warm_at 1_022_898 2_441_268 warm_off warm_is
@@ -98,7 +97,7 @@ compares_right = record { left_density = 1_022_898; right_density = 1_023_092; l
 pub compares_left : Compares cool warm (neg 2)
 unfolding shows shows_warm shows_cool
 compares_left =
-    let turned = swapped (channel_of (Entry.Reading 0 (deep warm))) (channel_of (Entry.Reading 0 (deep cool))) Shared.No (pos 2) two in
+    let turned = swapped (channel_of (message 0 (deep warm))) (channel_of (message 0 (deep cool))) false (pos 2) two in
     record { left_density = 1_023_092; right_density = 1_022_898; left = shows_cool; right = shows_warm; needle_is = sym turned }
 
 -- the formula makes the cool water, which the needle names, the lighter of the two, at the 5 bar that both have in common
@@ -121,7 +120,7 @@ far = deep_of (float_of 0x7B 0xD4 0x27 0x42) (float_of 0x81 0xD5 0x1F 0x42) (flo
 abbrev far_off : Remarks
 far_off = record { salinity = Below; temperature = Above; pressure = Below }
 
-far_is : channel_of (Entry.Reading 0 (deep far)) ≡ Channel.Accepted (record { sigma = pos 41_958; tau = pos 39_958; pi = pos 60 }) 1_023_176 2_443_048 far_off
+far_is : channel_of (message 0 (deep far)) ≡ channel_at (record { sigma = pos 41_958; tau = pos 39_958; pi = pos 60 }) 1_023_176 2_443_048 far_off
 unfolding of_bits channel_of checked_for placed_for place_of inside grid_no remark_of watered_of water_of range_of scaled row_value root_from root_of Dw Ds Dr Dss Kw Ks Kr Aw As Ar Bw Bs rows_at root_at surface K0 A B bulk hundredths mass net gain density shown bulk_of shown_of shown_at modulus_at
 far_is = refl
 

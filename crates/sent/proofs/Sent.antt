@@ -21,7 +21,7 @@ use Rattle.floats.proofs.Order as order
 use Rattle.readings.specs.Check.{salinities}
 use Rattle.readings.specs.declared.Reading.{Reading}
 use Rattle.readings.specs.declared.Point.{Point}
-use Rattle.readings.specs.declared.Entry.{Entry}
+use Rattle.readings.specs.Entry.{message}
 use Rattle.panel.specs.Panel.{common, shown_under, shared_of}
 use Rattle.panel.proofs.Answers.{accepted_inside}
 use Rattle.panel.proofs.Needles.{value_is}
@@ -88,7 +88,7 @@ module _ {r : Reading} {d : ℕ} (s : Shows r d) where
   p = s.point
 
   table : OnTable p.sigma p.tau p.pi
-  table = accepted_table (Entry.Reading s.probe s.report) p d s.bulk s.remarks (sym s.channel_is)
+  table = accepted_table (message s.probe s.report) p d s.bulk s.remarks (sym s.channel_is)
 
   σ_is : grid_no 1000 r.salinity ≡ pos (plus p.sigma)
   σ_is = sym (pledge.gridded r d s).sigma_is ∙ (natural table.salinity).is
@@ -99,7 +99,7 @@ module _ {r : Reading} {d : ℕ} (s : Shows r d) where
   -- under the pressure of any float that has a grid number of the table
   pub beside : (f : Float) (π : ℕ) (x : Frac) → grid_no 100 f ≡ pos π → π ≤ 100_000 → RootOf (v_of r) x → Beside (plus p.sigma) p.tau π (v_of r) x (u_of r) (value_by 1_000 f)
   beside f π x e h v =
-      let g = pledge.on_grid (Entry.Reading s.probe s.report) p d s.bulk s.remarks s.channel_is in
+      let g = pledge.on_grid (message s.probe s.report) p d s.bulk s.remarks s.channel_is in
       record {
         on_grid = record { salt = g.salt; cold = g.cold; warm = g.warm; deep = h };
         salinity = subst (λ (z : ℤ). HalfStep (grid z) (v_of r)) σ_is (rounds 1000 100 r.salinity (omega arith) (omega arith));
@@ -116,7 +116,7 @@ module _ {r : Reading} {d : ℕ} (s : Shows r d) where
 
 pub shown_within : SentWithin
 shown_within r d x s v =
-    rw (pledge.shows (Entry.Reading s.probe s.report) s.point d s.bulk s.remarks s.channel_is).density_is (to_within (omega arith) (omega arith) (omega arith) (near_own s x v))
+    rw (pledge.shows (message s.probe s.report) s.point d s.bulk s.remarks s.channel_is).density_is (to_within (omega arith) (omega arith) (omega arith) (near_own s x v))
 
 -- the formula's density there is a fraction: its lower number is above 0, and so K is above P
 pub sent_fraction : (r : Reading) (d : ℕ) (x : Frac) → Shows r d → RootOf (v_of r) x → 0 < (sent_at r x).den
@@ -143,7 +143,7 @@ module _ (l r : Reading) (z : ℤ) (c : Compares l r z) where
 
   needle_is : z ≡ pos (shown_under π c.right.point) -ℤ pos (shown_under π c.left.point)
   needle_is =
-      value_is (shared_of (Entry.Reading c.left.probe c.left.report) (Entry.Reading c.right.probe c.right.report)) z
+      value_is (shared_of (message c.left.probe c.left.report) (message c.right.probe c.right.report)) z
       (sym c.left.channel_is) (sym c.right.channel_is) (sym c.needle_is)
 
   left_near : (x : Frac) → RootOf (v_of l) x → Near 10_000 (sent_under (common_sent l r) l x) (pos (10 * shown_under π c.left.point)) 14 14

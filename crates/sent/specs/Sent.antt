@@ -2,14 +2,13 @@
 -- Proved in proofs/Sent, and in proofs/Calls from the contracts of `panel::answer` and `panel::paired`.
 -- The words: `numer` and `denom` are a float's exact value (floats), `density_at` is the formula, and `Within e n f` says that n thousandths are within e
 -- of f (promises); `Shows r d`: the panel accepts the reading r and shows the density d (pledges); `RootOf v x`: x is in the bracket of √v (drift).
-use Rattle.std.specs.Prelude.{ℕ, ◌*◌, ◌≡◌, cond, ℤ, pos, ◌*ℤ◌, ◌≤ℤ◌, Float}
+use Rattle.std.specs.Prelude.{ℕ, ◌*◌, ◌≡◌, cond, ℤ, pos, ◌*ℤ◌, ◌≤ℤ◌, Float, Ok}
 use Rattle.std.specs.Int.Signed.{lt_z}
 use Rattle.whole.specs.Arith.{neg}
 use Rattle.whole.specs.Fraction.{Frac, over, ◌≤F◌, ◌⊖◌}
 use Rattle.floats.specs.Grid.{numer, denom}
 use Rattle.readings.specs.declared.Reading.{Reading}
-use Rattle.readings.specs.declared.Entry.{Entry}
-use Rattle.channels.specs.declared.Needle.{Needle}
+use Rattle.readings.specs.Entry.{message}
 use Rattle.panel.specs.Panel.{channel_of, shared_of, needle_of}
 use Rattle.promises.specs.Formula.{density_at}
 use Rattle.promises.specs.Promises.{Within}
@@ -52,9 +51,9 @@ pub record Compares (l r : Reading) (z : ℤ) : Type 0 where
   pub left : Shows l left_density
   pub right : Shows r right_density
   pub needle_is :
-      let a = Entry.Reading left.probe left.report in
-      let b = Entry.Reading right.probe right.report in
-      Needle.Value z ≡ needle_of (channel_of a) (channel_of b) (shared_of a b)
+      let a = message left.probe left.report in
+      let b = message right.probe right.report in
+      Ok z ≡ needle_of (channel_of a) (channel_of b) (shared_of a b)
 
 -- ---- the promises, for every fraction in place of each root. (Every reading that is shown has one, `root_sent_lem` of proofs/Sent, and none of the bracket is
 -- left out, `root_every` of drift/proofs/Root.)

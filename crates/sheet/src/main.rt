@@ -3,7 +3,6 @@
 
 ghost use Rattle.std.specs.Prelude.{◌≤◌, length};
 
-use pages::Filled;
 use std::io::Read;
 
 // The buffer holds more than the 60,000 bytes of the longest stream that has a page: what lies past it makes no difference.
@@ -11,14 +10,17 @@ fn main(rt: HostRuntime) {
     let mut input = [0u8; 65_536];
     let n = read_whole(&mut rt.stdin(), &mut input);
     let mut out = [0u8; pages::LONGEST_PAGE];
-    let filled = pages::write_page(&input[..n], &mut out);
-    let Filled::Page(k) = filled else {
+    let Ok(k) = pages::write_page(&input[..n], &mut out) else {
         return;
     };
-    show(&rt, &out, k);
+    // A write that fails ends the page there.
+    if let Some(page) = out.get(..k) {
+        let _ = rt.write_all(page);
+    }
 }
 
-// Reads until the buffer is full, the input ends or a read fails, and answers how many bytes there are at its start.
+// Reads until the buffer is full, the input ends or a read fails, and answers how many bytes there are at its start. (`details` has it too: what a library
+// answers follows from its arguments, and what is read does not. The library's own way to read to the end wants a heap.)
 fn read_whole(from: &mut impl Read, into: &mut [u8]) -> usize
     ensures { result ≤ length into.new }
 {
@@ -30,11 +32,4 @@ fn read_whole(from: &mut impl Read, into: &mut [u8]) -> usize
         }
     }
     n
-}
-
-// A write that fails ends the page there.
-fn show(rt: &impl Print, out: &[u8], k: usize) {
-    if k <= out.len() {
-        let _ = rt.write_all(&out[..k]);
-    }
 }

@@ -1,4 +1,3 @@
-mod Rows
 pub mod Lettered
 pub mod Widths
 mod Example

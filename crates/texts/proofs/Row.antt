@@ -2,11 +2,9 @@
 use Prim.Native.Nat.{ℕ}
 use mathlib.Core.Path.{◌≡◌, refl}
 use contract.Lifetimes
-use Rattle.readings.specs.declared.Entry.{Entry}
-use Rattle.channels.specs.declared.Channel.{Channel}
-use Rattle.channels.specs.declared.Channel.TheVariants.{Accepted, Refused}
-use Rattle.channels.specs.declared.Needle.{Needle}
-use Rattle.channels.specs.declared.Needle.TheVariants.{Value, Refused as NoNeedle}
+use Rattle.std.specs.Prelude.{Ok, Err}
+use Rattle.readings.specs.Entry.{Entry}
+use Rattle.channels.specs.Answer.{Channel, Needle}
 use Rattle.panel.specs.Panel.{channel_of, shared_of, needle_of, comparison_of}
 use Rattle.panel.proofs.paired.Reads as paired
 use Rattle.cells.specs.Cells.{cell_text, row_text}
@@ -14,13 +12,13 @@ use Rattle.texts.specs.Text.{place_text, needle_text, places_text, line_of, plac
 
 place_shows : (c : Channel) → cell_text (place_cell c) ≡ place_text c
 unfolding cell_text
-place_shows (Accepted p d k m) = refl
-place_shows (Refused r) = refl
+place_shows (Ok a) = refl
+place_shows (Err r) = refl
 
 needle_shows : (v : Needle) → cell_text (needle_cell v) ≡ needle_text v
 unfolding cell_text
-needle_shows (Value z) = refl
-needle_shows (NoNeedle k) = refl
+needle_shows (Ok z) = refl
+needle_shows (Err s) = refl
 
 pub line_row : (n : ℕ) (left right : Entry) → line_of n left right ≡ row_text 32 (line_cells n (channel_of left) (channel_of right) (needle_of (channel_of left) (channel_of right) (shared_of left right)))
 unfolding line_of places_text row_text cell_text

@@ -1,5 +1,7 @@
 -- What the C call for a needle tells is what `panel::paired` tells of the same two reports, so that all that is pledged of its needle holds of the
 -- third word. `Learnt` is a contract as the checker reads it off the source. Assumes nothing.
+use Rattle.std.specs.Prelude.{Option, Some, None, Result}
+use Rattle.refusals.specs.declared.Refusal.{Refusal}
 use Prim.Native.Nat.{ℕ}
 use mathlib.Core.List.{List}
 use mathlib.Core.Path.{◌≡◌, refl, sym, ap, ap₂, ◌∙◌}
@@ -8,11 +10,10 @@ use lib.Seq.{sets}
 use lib.IntN.{ℤ}
 use lib.Ieee.{Float}
 use Rattle.readings.specs.declared.Report.{Report}
-use Rattle.readings.specs.declared.Entry.{Entry}
-use Rattle.kinds.specs.declared.Kind.{Kind}
-use Rattle.kinds.specs.declared.Kind.TheVariants.{Known, Unknown}
+use Rattle.readings.specs.Entry.{Entry, message}
+use Rattle.kinds.specs.declared.Row.{Row}
 use Rattle.kinds.specs.Kinds.{kind_of, report_of}
-use Rattle.channels.specs.declared.Channel.{Channel}
+use Rattle.channels.specs.Answer.{Channel}
 use Rattle.channels.specs.declared.Comparison.{Comparison}
 use Rattle.channels.specs.Numbers.{channel_number, needle_number}
 use Rattle.panel.specs.Panel.{channel_of, comparison_of}
@@ -56,14 +57,14 @@ channel_told κs a r s told κs' b c t answered e =
 
 -- what does not look at a reading's number does not look at the one that a call is given
 unread :
-    {A : Type 0} (f : Entry → A) → ((n n' : ℕ) (report : Report) → f (Entry.Reading n report) ≡ f (Entry.Reading n' report)) →
+    {A : Type 0} (f : Entry → A) → ((n n' : ℕ) (report : Report) → f (message n report) ≡ f (message n' report)) →
     (kind n n' : ℕ) (s t p : Float) → f (entry_of kind n s t p) ≡ f (entry_of kind n' s t p)
 unfolding entry_of
 unread f same kind n n' s t p = go (kind_of kind)
   where
-    go : (k : Kind) → f (entry_by kind n s t p k) ≡ f (entry_by kind n' s t p k)
-    go (Known row) = same n n' (report_of row.holds s t p)
-    go Unknown = refl
+    go : (k : Option Row) → f (entry_by kind n s t p k) ≡ f (entry_by kind n' s t p k)
+    go (Some row) = same n n' (report_of row.holds s t p)
+    go None = refl
 
 -- so a channel: two calls with one kind and the same floats answer alike, whatever the numbers
 pub channel_of_any_probe :
@@ -100,4 +101,4 @@ pub root_told :
     b.0 ≡ a.0 → b.1.0 ≡ a.1.0 → (r ≡ search_number g) × (s.1.1.0.now ≡ sets a.1.1.0.now 0 (search_words g))
 root_told κs a r s told κs' b g t found σ j =
     let e = sym (found ∙ ap₂ search_of σ j) in
-    (told.0 ∙ ap search_number e, told.1 ∙ ap (λ (x : Search). sets a.1.1.0.now 0 (search_words x)) e)
+    (told.0 ∙ ap search_number e, told.1 ∙ ap (λ (x : Result Search Refusal). sets a.1.1.0.now 0 (search_words x)) e)

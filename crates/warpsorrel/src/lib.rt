@@ -19,10 +19,10 @@ ghost use Rattle.lines.specs.Line.{wrote_of, wrote_number, wrote_count};
 ghost use Rattle.pages.specs.Page.{page_of, filled_of, filled_number, filled_count};
 ghost use Rattle.abi.specs.Abi.{version, entry_of, channel_words, comparison_words, found_number, found_words};
 
-use channels::Channel;
-use panel::{Shared, Side};
+use channels::{Accepted, Channel};
+use panel::Side;
+use refusals::Refusal;
 use roots::Search;
-use streams::Found;
 
 pub const VERSION: u32 = 4;
 
@@ -41,7 +41,7 @@ pub extern "C" fn warpsorrel_version() -> u32
 pub extern "C" fn warpsorrel_refusal(sigma: i64, tau: i64, pi: i64) -> u32
     ensures { result ≡ water_number (water_of sigma tau pi) }
 {
-    sea::water_at(sigma, tau, pi).number()
+    refusals::number(&sea::water_at(sigma, tau, pi))
 }
 
 // The shown density in 0.001 kg/m3; 0 if refused.
@@ -49,7 +49,7 @@ pub extern "C" fn warpsorrel_refusal(sigma: i64, tau: i64, pi: i64) -> u32
 pub extern "C" fn warpsorrel_density(sigma: i64, tau: i64, pi: i64) -> u32
     ensures { result ≡ water_density (water_of sigma tau pi) }
 {
-    sea::water_at(sigma, tau, pi).density()
+    waters::density(sea::water_at(sigma, tau, pi))
 }
 
 // The bulk modulus in 0.01 bar; 0 if refused.
@@ -57,7 +57,7 @@ pub extern "C" fn warpsorrel_density(sigma: i64, tau: i64, pi: i64) -> u32
 pub extern "C" fn warpsorrel_bulk(sigma: i64, tau: i64, pi: i64) -> u32
     ensures { result ≡ water_bulk (water_of sigma tau pi) }
 {
-    sea::water_at(sigma, tau, pi).bulk()
+    waters::bulk(sea::water_at(sigma, tau, pi))
 }
 
 // The root that a salinity's reading uses, and the line of its search after so many trials (docs/ROOT.md): 0 or the refusal 3; out gets the root, the
@@ -68,24 +68,17 @@ pub extern "C" fn warpsorrel_root(sigma: i64, trials: u32, out: &mut [u64; 4]) -
     ensures numbers { out.new ≡ sets out.old 0 (search_words (search_of sigma trials)) }
 {
     let found = roots::search_at(sigma, trials);
+    *out = root_row(found);
+    refusals::number(&found)
+}
+
+// The words of a root: four noughts if refused.
+fn root_row(found: Result<Search, Refusal>) -> [u64; 4]
+    ensures { result ≡ search_words found }
+{
     match found {
-        Search::Known { root, line } => {
-            let bit = line.bit;
-            let rest = line.rest;
-            let so_far = line.root;
-            out[0] = root;
-            out[1] = bit;
-            out[2] = rest;
-            out[3] = so_far;
-            0
-        }
-        Search::Refused(why) => {
-            out[0] = 0;
-            out[1] = 0;
-            out[2] = 0;
-            out[3] = 0;
-            why.number()
-        }
+        Ok(Search { root, line }) => [root, line.bit, line.rest, line.root],
+        Err(_) => [0; 4],
     }
 }
 
@@ -107,55 +100,54 @@ pub extern "C" fn warpsorrel_channel(
     ensures numbers { out.new ≡ sets out.old 0 (channel_words (channel_of (entry_of kind probe salinity temperature pressure))) }
 {
     let channel = panel::answer(abi::entry_of(kind, probe, salinity, temperature, pressure));
-    match channel {
-        Channel::Accepted {
+    *out = channel_row(channel);
+    refusals::number(&channel)
+}
+
+// The words of a channel: eight noughts if refused.
+fn channel_row(channel: Channel) -> [i64; 8]
+    ensures { result ≡ channel_words channel }
+{
+    let Ok(
+        Accepted {
             at,
             density,
             bulk,
             remarks,
-        } => {
-            let sigma = at.sigma;
-            let tau = at.tau;
-            let pi = at.pi;
-            let by_salinity = remarks.salinity;
-            let by_temperature = remarks.temperature;
-            let by_pressure = remarks.pressure;
-            out[0] = sigma;
-            out[1] = tau;
-            out[2] = pi;
-            out[3] = density as i64;
-            out[4] = bulk as i64;
-            out[5] = by_salinity.number() as i64;
-            out[6] = by_temperature.number() as i64;
-            out[7] = by_pressure.number() as i64;
-            0
-        }
-        Channel::Refused(why) => {
-            out[0] = 0;
-            out[1] = 0;
-            out[2] = 0;
-            out[3] = 0;
-            out[4] = 0;
-            out[5] = 0;
-            out[6] = 0;
-            out[7] = 0;
-            why.number()
-        }
-    }
+        },
+    ) = channel
+    else {
+        return [0; 8];
+    };
+    [
+        at.sigma,
+        at.tau,
+        at.pi,
+        density as i64,
+        bulk as i64,
+        remarks.salinity.number() as i64,
+        remarks.temperature.number() as i64,
+        remarks.pressure.number() as i64,
+    ]
 }
 
 // The words of two sides and their needle.
-fn put_needle(left: Side, right: Side, shared: Shared, out: &mut [i64; 3]) -> u32
+fn put_needle(
+    left: Result<Side, Refusal>,
+    right: Result<Side, Refusal>,
+    shared: bool,
+    out: &mut [i64; 3],
+) -> u32
     ensures answer { result ≡ needle_number (needle_between left right shared) }
     ensures numbers { out.new ≡ sets out.old 0 (comparison_words (compared_from left right shared)) }
 {
     let needle = panel::needle(left, right, shared);
-    let l = left.channel;
-    let r = right.channel;
-    out[0] = l.density() as i64;
-    out[1] = r.density() as i64;
-    out[2] = needle.value();
-    needle.number()
+    *out = [
+        channels::density(panel::channel(left)) as i64,
+        channels::density(panel::channel(right)) as i64,
+        channels::value(needle),
+    ];
+    channels::number(needle)
 }
 
 // The needle of two reports: 0 or its refusal, 32 if both are accepted and have the same number other than 0; out gets the left density, the right density (0
@@ -213,8 +205,8 @@ pub extern "C" fn warpsorrel_co2(
     ensures value { out.new ≡ solubility_value (solubility_of (entry_of kind 0 salinity temperature pressure)) }
 {
     let answer = carbon::answer(abi::entry_of(kind, 0, salinity, temperature, pressure));
-    *out = answer.value();
-    answer.number()
+    *out = carbon::value(answer);
+    refusals::number(&answer)
 }
 
 // The float for the recorder, of a shown density.
@@ -243,16 +235,8 @@ pub extern "C" fn warpsorrel_pair(stream: &[u8], before: usize, out: &mut [i64; 
     ensures numbers { out.new ≡ sets out.old 0 (found_words (nth_of (pairs stream.now) before)) }
 {
     let found = streams::nth(stream, before);
-    match found {
-        Found::There(pair) => {
-            abi::put_pair(pair, out);
-            1
-        }
-        Found::Nothing => {
-            abi::put_noughts(out);
-            0
-        }
-    }
+    abi::put_pair(found, out);
+    found.is_some() as u32
 }
 
 // ---- text
@@ -294,8 +278,8 @@ pub extern "C" fn warpsorrel_line(
         right_pressure,
     );
     let wrote = lines::write_line(number, left, right, out);
-    *count = wrote.count();
-    wrote.number()
+    *count = lines::count(wrote);
+    refusals::number(&wrote)
 }
 
 // The page of a stream, at the start of out: 0, and count gets its bytes; or the refusal 30 (out has under 118,916 bytes), count gets 0 and
@@ -307,6 +291,6 @@ pub extern "C" fn warpsorrel_page(stream: &[u8], out: &mut [u8], count: &mut usi
     ensures bytes { out.new ≡ written count.new (page_of stream.now) out.old }
 {
     let filled = pages::write_page(stream, out);
-    *count = filled.count();
-    filled.number()
+    *count = lines::count(filled);
+    refusals::number(&filled)
 }

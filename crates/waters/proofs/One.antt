@@ -2,12 +2,8 @@
 -- dropped clause breaks these laws. Assumes nothing.
 use mathlib.Core.Path.{◌≡◌, sym, ◌∙◌}
 use contract.Lifetimes
-use Rattle.waters.proofs.Water.number.Reads as number
-use Rattle.waters.proofs.Water.density.Reads as density
-use Rattle.waters.proofs.Water.bulk.Reads as bulk
-
-pub one_number : (κs : Lifetimes.Lfts 0) (a : _) (r r' : _) (s s' : _) → number.Learnt κs a r s → number.Learnt κs a r' s' → r ≡ r'
-one_number κs a r r' s s' e f = e ∙ sym f
+use Rattle.waters.proofs.density.Reads as density
+use Rattle.waters.proofs.bulk.Reads as bulk
 
 pub one_density : (κs : Lifetimes.Lfts 0) (a : _) (r r' : _) (s s' : _) → density.Learnt κs a r s → density.Learnt κs a r' s' → r ≡ r'
 one_density κs a r r' s s' e f = e ∙ sym f
@@ -16,9 +12,6 @@ pub one_bulk : (κs : Lifetimes.Lfts 0) (a : _) (r r' : _) (s s' : _) → bulk.L
 one_bulk κs a r r' s s' e f = e ∙ sym f
 
 -- ---- nothing is asked of the caller: `Asked` is what a contract requires
-pub free_number : (κs : Lifetimes.Lfts 0) (a : _) → number.Asked κs a
-free_number κs a = tt
-
 pub free_density : (κs : Lifetimes.Lfts 0) (a : _) → density.Asked κs a
 free_density κs a = tt
 

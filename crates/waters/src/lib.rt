@@ -2,46 +2,26 @@
 #![tactic(auto)]
 
 ghost use Rattle.std.specs.Prelude.{◌≡◌};
-ghost use Rattle.waters.specs.Numbers.{water_number, water_density, water_bulk};
+ghost use Rattle.waters.specs.Numbers.{water_density, water_bulk};
 
 use refusals::Refusal;
 
-// The shown density in 0.001 kg/m3 and the bulk modulus in 0.01 bar, or why not.
+// The shown density in 0.001 kg/m3 and the bulk modulus in 0.01 bar.
 #[derive(Clone, Copy)]
-pub enum Water {
-    Known { density: u32, bulk: u32 },
-    Refused(Refusal),
+pub struct Water {
+    pub density: u32,
+    pub bulk: u32,
 }
 
-// SPEC's number and values for each case: a refused water has noughts.
-impl Water {
-    pub fn number(self) -> u32
-        ensures { result ≡ water_number self }
-    {
-        match self {
-            Water::Known {
-                density: _,
-                bulk: _,
-            } => 0,
-            Water::Refused(why) => why.number(),
-        }
-    }
+// SPEC's values for each case: a refused water has noughts. (Its number is `refusals::number`.)
+pub fn density(water: Result<Water, Refusal>) -> u32
+    ensures { result ≡ water_density water }
+{
+    water.map_or(0, |known| known.density)
+}
 
-    pub fn density(self) -> u32
-        ensures { result ≡ water_density self }
-    {
-        match self {
-            Water::Known { density, bulk: _ } => density,
-            Water::Refused(_) => 0,
-        }
-    }
-
-    pub fn bulk(self) -> u32
-        ensures { result ≡ water_bulk self }
-    {
-        match self {
-            Water::Known { density: _, bulk } => bulk,
-            Water::Refused(_) => 0,
-        }
-    }
+pub fn bulk(water: Result<Water, Refusal>) -> u32
+    ensures { result ≡ water_bulk water }
+{
+    water.map_or(0, |known| known.bulk)
 }

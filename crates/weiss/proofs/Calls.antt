@@ -2,7 +2,7 @@
 -- as the checker reads it off the source: a dropped or weakened clause breaks the last law. Assumes nothing.
 use Prim.Native.Nat.{ℕ, ◌≤◌}
 use mathlib.Core.Path.{◌≡◌, refl, sym, ap, ◌∙◌, subst}
-use mathlib.Core.Option.{some}
+use Rattle.std.specs.Prelude.{Some, Ok}
 use native.Mathlib.Omega.{arith}
 use contract.Lifetimes
 use lib.IntN.{ℤ}
@@ -12,9 +12,8 @@ use Rattle.whole.specs.Fraction.{Frac, over}
 use Rattle.floats.specs.Grid.{grid_no}
 use Rattle.readings.specs.declared.Report.{Report}
 use Rattle.readings.specs.declared.Reading.{Reading}
-use Rattle.readings.specs.declared.Entry.{Entry}
+use Rattle.readings.specs.Entry.{message}
 use Rattle.readings.specs.Check.{surface_of, given_of}
-use Rattle.carbon.specs.declared.Solubility.TheVariants.{Known}
 use Rattle.carbon.specs.Weiss.{ln_terms, rest_terms, kelvin}
 use Rattle.carbon.specs.Carbon.{solubility_of}
 use Rattle.carbon.proofs.Answers.{known_is}
@@ -45,7 +44,7 @@ held_within_kept = held (over 540 1_000_000_000) within_kept
 -- one call of `answer` with a report of the reading r, whose answer is the value z
 pub told_within_two :
     (κs : Lifetimes.Lfts 0) (a : _) (c : _) (s : _) → answer.Learnt κs a c s →
-    (z : ℤ) → Known z ≡ c → (probe : ℕ) (report : Report) (r : Reading) → a.0 ≡ Entry.Reading probe report → given_of report ≡ some r →
+    (z : ℤ) → Ok z ≡ c → (probe : ℕ) (report : Report) (r : Reading) → a.0 ≡ message probe report → given_of report ≡ Some r →
     (j k : ℕ) → ln_terms ≤ j → rest_terms ≤ k → Held (over 2 1_000_000) j k r z
 told_within_two κs a c s told z is probe report r e g j k hj hk = held_within_two probe report r z j k g (is ∙ told ∙ ap solubility_of e) hj hk
 

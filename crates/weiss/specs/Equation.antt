@@ -1,15 +1,13 @@
 -- Equation (30) of the handbook of CO2 measurements in exact fractions, and how near the panel's ln K0 is promised to be. Proved in proofs/Promises; of what is answered
 -- in proofs/Calls, there also from the contract of `carbon::answer`.
-use Rattle.std.specs.Prelude.{ℕ, zero, suc, ◌+◌, ◌^◌, ◌≤◌, ◌<◌, ◌≡◌, ℤ, pos, ◌-ℤ◌}
-use Rattle.std.proofs.Math.Option.{some}
+use Rattle.std.specs.Prelude.{ℕ, zero, suc, ◌+◌, ◌^◌, ◌≤◌, ◌<◌, ◌≡◌, ℤ, pos, ◌-ℤ◌, Some, Ok}
 use Rattle.whole.specs.Arith.{neg, plus, minus}
 use Rattle.whole.specs.Fraction.{Frac, over, units, ◌≤F◌, ◌⊕◌, ◌⊖◌, ◌⊗◌}
 use Rattle.floats.specs.Grid.{grid_no}
 use Rattle.readings.specs.declared.Report.{Report}
 use Rattle.readings.specs.declared.Reading.{Reading}
-use Rattle.readings.specs.declared.Entry.{Entry}
+use Rattle.readings.specs.Entry.{message}
 use Rattle.readings.specs.Check.{given_of}
-use Rattle.carbon.specs.declared.Solubility.TheVariants.{Known}
 use Rattle.carbon.specs.Weiss.{ln_terms, rest_terms, kelvin, ln_k0}
 use Rattle.carbon.specs.Carbon.{solubility_of}
 
@@ -76,5 +74,5 @@ pub record Held (e : Frac) (j k : ℕ) (r : Reading) (z : ℤ) : Type 0 where
 -- of what is answered
 abbrev pub HeldWithin : Frac → Type 0
 HeldWithin e =
-    (probe : ℕ) (report : Report) (r : Reading) (z : ℤ) (j k : ℕ) → given_of report ≡ some r → Known z ≡ solubility_of (Entry.Reading probe report) → ln_terms ≤ j → rest_terms ≤ k →
+    (probe : ℕ) (report : Report) (r : Reading) (z : ℤ) (j k : ℕ) → given_of report ≡ Some r → Ok z ≡ solubility_of (message probe report) → ln_terms ≤ j → rest_terms ≤ k →
     Held e j k r z

@@ -4,14 +4,12 @@ use mathlib.Core.Path.{◌≡◌, ap, ap₂, ◌∙◌}
 use Prim.Native.Nat.{ℕ, ◌+◌, ◌*◌, ◌-◌, ◌/◌, ◌^◌, ◌<◌, ◌≤◌}
 use native.Mathlib.Omega.{arith}
 use lib.IntN.{ℤ, pos, negsuc, nat_abs, ◌+ℤ◌, ◌-ℤ◌, ◌*ℤ◌}
-use lib.Signed.{non_neg}
-use lib.Dec.{T}
 use mir.Syntax.{w64}
-use mir.Val.{Fits, SFits}
+use mir.Val.{SFits}
 use mir.ValLaws.{to_z-of_z}
 use Rattle.whole.specs.Arith.{plus, minus, floor_div}
 use Rattle.whole.proofs.Ints.{size_is, add_is, sub_is, mul_size, floor_size, same}
-use Rattle.whole.proofs.Words.{word, word_as, fits_size, fits_as}
+use Rattle.whole.proofs.Words.{word, word_as, fits_size}
 
 -- z and the offset
 abbrev pub lifted : ℤ → ℕ
@@ -34,24 +32,15 @@ module _ (h x : ℤ) (fh : SFits w64 h) (fx : SFits w64 x) (small : nat_abs h * 
   product_fits : SFits w64 (h *ℤ x)
   product_fits = fits_size (h *ℤ x) (omega (arith, size))
 
-  pub mul_fits : SFits w64 (word h *ℤ word x)
-  mul_fits = fits_as product_is product_fits
-
   sum_is : word (word h *ℤ word x) +ℤ pos 4_600_000_000_000_000_000 ≡ pos (lifted (h *ℤ x))
   sum_is = ap (λ (z : ℤ). z +ℤ pos 4_600_000_000_000_000_000) (word_as product_is product_fits) ∙ lift_is (h *ℤ x) size
 
   lifted_fits : SFits w64 (pos (lifted (h *ℤ x)))
   lifted_fits = record { sfits = omega (arith, size, size_is (h *ℤ x)) }
 
-  pub add_fits : SFits w64 (word (word h *ℤ word x) +ℤ pos 4_600_000_000_000_000_000)
-  add_fits = fits_as sum_is lifted_fits
-
   -- the dividend, as the code has it
   pub dividend_is : word (word (word h *ℤ word x) +ℤ pos 4_600_000_000_000_000_000) ≡ pos (lifted (h *ℤ x))
   dividend_is = word_as sum_is lifted_fits
-
-  pub dividend_fits : T (non_neg (pos (lifted (h *ℤ x)))) × Fits w64 (nat_abs (pos (lifted (h *ℤ x))))
-  dividend_fits = (tt, record { fits = omega (arith, size, size_is (h *ℤ x)) })
 
   pub quotient_fits : lifted (h *ℤ x) / 100_000 < 2 ^ 63
   quotient_fits = omega (arith, size, size_is (h *ℤ x))

@@ -1,13 +1,12 @@
 -- Signed machine words: a number that fits comes back from its word unchanged, and small numbers fit. Assumes nothing.
 use mathlib.Core.Path.{◌≡◌, sym, ap, ◌∙◌, subst}
-use Prim.Native.Nat.{ℕ, ◌*◌, ◌^◌, ◌<◌, ◌≤◌}
+use Prim.Native.Nat.{ℕ, ◌+◌, ◌*◌, ◌^◌, ◌<◌, ◌≤◌}
 use native.Mathlib.Omega.{arith}
 use native.Mathlib.Nat.{mul-le-mul}
 use lib.IntN.{ℤ, pos, negsuc, nat_abs, ◌+ℤ◌, ◌*ℤ◌}
-use lib.Signed.{mag, non_neg}
-use lib.Dec.{T}
+use lib.Signed.{mag}
 use mir.Syntax.{w64}
-use mir.Val.{Fits, SFits, to_z, of_z}
+use mir.Val.{SFits, to_z, of_z}
 use mir.ValLaws.{to_z-of_z}
 use Rattle.whole.specs.Arith.{plus, minus, floor_div, scaled}
 use Rattle.whole.proofs.Ints.{size_is, add_is, mul_size, floor_size}
@@ -45,13 +44,16 @@ step_fits c h x hc hh hx =
     fits_size (c +ℤ q)
     (omega (arith, size_is (c +ℤ q), s.plus_small, s.minus_small, size_is c, size_is q, floor_size (h *ℤ x), mul_size h x, product_small hh hx))
 
+-- a part of a small sum, whose other part is a scaled product, is itself far from a word's end
+pub part_fits : (c h x : ℤ) → nat_abs (c +ℤ scaled h x) ≤ 46_000_000_000_000 → nat_abs h ≤ 46_000_000_000_000 → nat_abs x ≤ 100_000 → SFits w64 c
+unfolding scaled
+part_fits c h x hz hh hx =
+    let q = floor_div (h *ℤ x) 100_000 in
+    go c (plus (c +ℤ q)) (minus (c +ℤ q)) (plus q) (minus q) (add_is c q).is (omega (arith, size_is (c +ℤ q), hz)) (omega (arith, size_is q, floor_size (h *ℤ x), mul_size h x, product_small hh hx))
+  where
+    go : (c : ℤ) (a b p m : ℕ) → a + (minus c + m) ≡ b + (plus c + p) → a + b ≤ 46_000_000_000_000 → p + m ≤ 46_000_000_000_001 → SFits w64 c
+    go (pos n) a b p m e l k = record { sfits = omega (arith, e) }
+    go (negsuc n) a b p m e l k = record { sfits = omega (arith, e) }
+
 pub step_as : {a b c x y z : ℤ} → a ≡ x → b ≡ y → c ≡ z → a +ℤ scaled b c ≡ x +ℤ scaled y z
 step_as p q r = rw (p, q, r)
-
--- ---- a number that is not negative, as an unsigned word
-pub unsigned_fits : (z : ℤ) → minus z ≡ 0 → SFits w64 z → T (non_neg z) × Fits w64 (nat_abs z)
-unsigned_fits (pos n) h f = (tt, record { fits = omega (arith, f.sfits) })
-unsigned_fits (negsuc n) h f = absurd (omega arith)
-
-pub unsigned_is : (z : ℤ) → minus z ≡ 0 → nat_abs z ≡ plus z
-unsigned_is z h = omega (arith, size_is z)

@@ -35,17 +35,16 @@ pub fn row_value(row: [i64; 6], t: i64) -> i64
     requires partial_small { ((k : ℕ) → nat_abs (the.row_value (drop k row) t) ≤ 46_000_000_000_000) }
     ensures { result ≡ the.row_value row t }
 {
-    let mut h: i64 = 0;
-    let mut k: usize = 6;
-    while 0 < k {
-        k -= 1;
-        h = row[k] + scaled(h, t);
+    let mut h = 0;
+    for c in row.iter().rev() {
+        h = c + scaled(h, t);
     }
     h
 }
 
 // A line of the search for a root, as it is worked out on paper (docs/ROOT.md): the root so far, the rest, the trial bit. (In this order the compiler
-// chooses the new root first, for which the next trial waits; with the bit first a needle took a hundredth longer.)
+// chooses the new root first, for which the next trial waits; with the bit first a needle took a hundredth longer.) What is asked of n below is asked of a plain number, and not by a type:
+// these functions are promised to whoever has one (docs/PROMISES.md), and so is `root_at`.
 #[derive(Clone, Copy)]
 pub struct Trial {
     pub root: u64,
@@ -98,13 +97,11 @@ pub fn trial_after(n: u64, trials: u32) -> Trial
     ensures { result ≡ paper.after trials n }
 {
     let mut at = Trial::first(n);
-    let mut done: u32 = 0;
-    while done < trials {
+    for _ in 0..trials {
         if at.bit == 0 {
             return at;
         }
         at = at.tried();
-        done += 1;
     }
     at
 }

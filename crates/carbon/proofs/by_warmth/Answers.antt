@@ -4,17 +4,14 @@ use mathlib.Core.Path.{ap}
 use native.Mathlib.Omega.{arith}
 use Rattle.carbon.specs.Weiss.{by_cold, by_log}
 use Rattle.carbon.proofs.Series.{ln_t_small, cold_small}
-use borrow.Author.Rules.{rules}
 use Rattle.carbon.proofs.by_warmth.Goals as goal
-
-pub ln_t-requires : goal.ln_t-requires
-ln_t-requires c = search rules
 
 pub overflow_mul-result : goal.overflow_mul-result
 overflow_mul-result c = record { fits = omega (arith, c.ln_t.ensures, ln_t_small c.args.n (c.requires.n_least, c.requires.n_most)) }
 
 pub overflow_add-result : goal.overflow_add-result
-overflow_add-result c = let n = c.args.n in record { fits = omega (arith, c.ln_t.ensures, ln_t_small n (c.requires.n_least, c.requires.n_most), cold_small n (c.requires.n_least, c.requires.n_most)) }
+overflow_add-result c =
+    let n = c.args.n in record { fits = omega (arith, c.ln_t.ensures, ln_t_small n (c.requires.n_least, c.requires.n_most), cold_small n (c.requires.n_least, c.requires.n_most)) }
 
 pub returns : goal.returns
 unfolding by_cold by_log

@@ -1,11 +1,9 @@
 -- `recorder` meets its contract: below 16,384,000 the cast is exact, and the literal 1000.0 is 1000. Assumes nothing.
 use mathlib.Core.Path.{◌≡◌, refl, sym, ap, ◌∙◌}
-use Prim.Native.Nat.{ℕ, ◌^◌, ◌≤◌}
-use native.Mathlib.Nat.{le_trans, le_of_lt}
+use Prim.Native.Nat.{ℕ, ◌≤◌}
 use mathlib.Core.Bool.{false}
-use lib.Dec.{le→leb, lit≤}
 use lib.IntN.{pos}
-use lib.Ieee.{fin, binary32, div, of_int, of_bits, in_float}
+use lib.Ieee.{fin, binary32, div, of_int, of_bits}
 use borrow.Author.Tests.{le-ltb}
 use Rattle.floats.specs.Recorder.{recorder_end, recorder_of}
 use Rattle.floats.proofs.Quotient.{recorder_is}
@@ -18,10 +16,6 @@ thousand = refl
 past : (n : ℕ) → recorder_end ≤ n → fin false 0 (pos 0) ≡ recorder_of n
 unfolding recorder_of
 past n h = simp (le-ltb _ _ h)
-
-pub int_to_float-result : goal.int_to_float-result
-unfolding in_float
-int_to_float-result c = le→leb c.args.shown (2 ^ 24) (le_trans (le_of_lt c.if-shown-lt16384000.true) (lit≤ tt))
 
 pub returns-then-shown-lt16384000 : goal.returns-then-shown-lt16384000
 returns-then-shown-lt16384000 c =

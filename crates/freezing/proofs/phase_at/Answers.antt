@@ -5,7 +5,6 @@ use mathlib.Core.Bool.{true, false}
 use Prim.Native.Nat.{ℕ, ◌+◌, ◌*◌, ◌≤◌, ◌^◌, ◌<◌}
 use native.Mathlib.Omega.{arith}
 use native.Mathlib.Nat.{mul-le-mul, mul-le-mul_left}
-use borrow.Author.Rules.{rules}
 use lib.Dec.{T}
 use lib.IntN.{ℤ, pos, nat_abs, neg_ℤ, ◌*ℤ◌, ◌-ℤ◌}
 use lib.Signed.{le_z, le_z_yes}
@@ -15,7 +14,7 @@ use mir.ValLaws.{to_z-of_z}
 use Rattle.whole.specs.Arith.{neg, plus}
 use Rattle.whole.specs.Order.{Lies}
 use Rattle.whole.proofs.Ints.{size_is, add_is, sub_is, mul_size, mul_plus, mul_minus, of_≤ℤ, below_minus, above_plus, neg_plus, neg_minus}
-use Rattle.whole.proofs.Words.{word, given, fits_size, fits_as, word_as}
+use Rattle.whole.proofs.Words.{word, given, fits_size, word_as}
 use Rattle.whole.proofs.Naturals.{natural}
 use Rattle.freezing.specs.declared.Phase.TheVariants.{Liquid}
 use Rattle.freezing.specs.Ice.{ice_at, warmth, phase_of}
@@ -80,18 +79,6 @@ module _ (b : Start) where
         mul-le-mul_left 75_300 π-size,
       ))
 
-pub overflow_mul-warmth : goal.overflow_mul-warmth
-overflow_mul-warmth c = fits_as (warmth_is c) (warmth-fits c)
-
-pub overflow_mul-sigma : goal.overflow_mul-sigma
-overflow_mul-sigma c = fits_as (salt_is c) (salt-fits c)
-
-pub overflow_mul-pi : goal.overflow_mul-pi
-overflow_mul-pi c = fits_as (deep_is c) (deep-fits c)
-
-pub overflow_sub-sigma : goal.overflow_sub-sigma
-overflow_sub-sigma c = fits_as (line_is c) (line-fits c)
-
 -- on the line or above it
 on_line : (σ τ π : ℤ) → Lies (pos 0) (pos 42_000) σ → Lies (pos 0) (pos 100_000) π → le_z (line σ π) (warmth τ) ≡ true → Liquid ≡ phase_of (plus σ) τ (plus π)
 on_line σ τ π s d e =
@@ -119,9 +106,6 @@ returns-then-sigma-pi c =
     let b = c.before in
     let e : le_z (line b.args.sigma b.args.pi) (warmth b.args.tau) ≡ true = rw (word_as (line_is b) (line-fits b), word_as (warmth_is b) (warmth-fits b)) at c.if-sigma-pi.true in
     on_line b.args.sigma b.args.tau b.args.pi b.requires.salinity b.requires.pressure e
-
-pub point_at-requires : goal.point_at-requires
-point_at-requires c = search rules
 
 point_is : (c : After-point_at) → word c.point_at.result ≡ ice_at (plus c.args.sigma) (plus c.args.pi)
 point_is c =

@@ -3,8 +3,7 @@ use mathlib.Core.Path.{◌≡◌, ap, ap₂, ◌∙◌}
 use Prim.Native.Nat.{◌≤◌}
 use native.Mathlib.Omega.{arith}
 use native.Mathlib.Nat.{mul-le-mul}
-use borrow.Author.Rules.{rules}
-use lib.IntN.{ℤ, pos, nat_abs}
+use lib.IntN.{ℤ, pos}
 use mir.Syntax.{w64}
 use mir.ValLaws.{to_z-of_z}
 use Rattle.whole.specs.Arith.{plus, scaled, root_at}
@@ -28,26 +27,17 @@ use Rattle.freezing.proofs.point_at.Goals as goal
 w_most : (b : Start) → root_at (plus b.args.sigma) ≤ 64_807
 w_most b = root_at_most (plus b.args.sigma) (σ_most b)
 
-σ_step : (b : Start) → nat_abs (word b.args.sigma) ≤ 100_000
-σ_step b = size_as (σ_is b) (omega (arith, σ_most b))
-
-pub root_at-w-requires : goal.root_at-w-requires
-root_at-w-requires c = search rules
-
 w_is : (c : After-root_at-w) → word c.root_at-w.result ≡ pos (root_at (plus c.args.sigma))
 w_is c = let b = c.before in given c.root_at-w.type_inv (c.root_at-w.ensures ∙ ap (λ (z : ℤ). pos (root_at (plus z))) (to_z-of_z w64 b.args.sigma b.ranges.sigma))
 
-pub step-rooted-requires : goal.step-rooted-requires
-step-rooted-requires c = record { c_small = omega arith; h_small = omega arith; x_small = size_as (w_is c) (omega (arith, w_most c.before)) }
+pub step-rooted-requires-clause-x_small : goal.step-rooted-requires-clause-x_small
+step-rooted-requires-clause-x_small c = size_as (w_is c) (omega (arith, w_most c.before))
 
 rooted_is : (c : After-step-rooted) → word c.step-rooted.result ≡ rooted (root_at (plus c.args.sigma))
 rooted_is c = given c.step-rooted.type_inv (c.step-rooted.ensures ∙ rw (w_is c.before))
 
-pub step-requires : goal.step-requires
-step-requires c =
-    let b = c.before.before in
-    let w = root_at (plus b.args.sigma) in
-    let h : nat_abs (rooted w) ≤ 46_000_000_000_000 = omega (arith, rooted_size w (w_most b)) in record { c_small = size_as (rooted_is c) h; h_small = omega arith; x_small = σ_step b }
+pub step-requires-clause-c_small : goal.step-requires-clause-c_small
+step-requires-clause-c_small c = let w = root_at (plus c.args.sigma) in size_as (rooted_is c) (omega (arith, rooted_size w (w_most c.before.before)))
 
 inner_is : (c : After-step) → let σ = plus c.args.sigma in word c.step.result ≡ inner σ (root_at σ)
 inner_is c = given c.step.type_inv (c.step.ensures ∙ rw (rooted_is c.before, σ_is c.before.before.before))
@@ -62,12 +52,11 @@ salt_is : (c : After-scaled-salt) → let σ = plus c.args.sigma in word c.scale
 unfolding salt_ice
 salt_is c = given c.scaled-salt.type_inv (c.scaled-salt.ensures ∙ ap₂ scaled (inner_is c.before) (σ_is c.before.before.before.before))
 
-pub step-requires-2 : goal.step-requires-2
-step-requires-2 c =
+pub step-requires-2-clause-c_small : goal.step-requires-2-clause-c_small
+step-requires-2-clause-c_small c =
     let b = c.before.before.before.before in
     let σ = plus b.args.sigma in
-    let h : nat_abs (salt_ice σ (root_at σ)) ≤ 46_000_000_000_000 = omega (arith, salt_size σ (root_at σ) (σ_most b) (w_most b)) in
-    record { c_small = size_as (salt_is c) h; h_small = omega arith; x_small = size_as (π_is b) (natural b.requires.pressure).most }
+    size_as (salt_is c) (omega (arith, salt_size σ (root_at σ) (σ_most b) (w_most b)))
 
 pub returns : goal.returns
 unfolding ice_at deep_ice

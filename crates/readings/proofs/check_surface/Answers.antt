@@ -1,39 +1,32 @@
--- `check_surface` meets its contract: the answer is 2 where the first or the second float's test failed. Assumes nothing.
+-- `check_surface` meets its contract: checks 2, 3 and 4 of the surface reading, and a pressure of 0 has its place. Assumes nothing.
 use borrow.Author.Rules.{rules}
-use mathlib.Core.Path.{◌≡◌, refl, sym, ◌∙◌}
-use mathlib.Core.Option.{some}
-use mathlib.Core.Bool.{Bool, ◌&&◌}
-use lib.Ieee.{Float}
-use Rattle.floats.specs.Grid.{finite}
-use Rattle.readings.specs.Check.{surface_of, yes_no, in_order, checked_for}
-use Rattle.readings.specs.declared.Purpose.{Purpose}
+use mathlib.Core.Path.{◌≡◌, sym, ap, ◌∙◌}
+use Rattle.std.specs.Prelude.{Some, Ok, Err}
+use Rattle.floats.specs.Grid.{place_of}
 use Rattle.readings.specs.declared.Report.{Report}
-use Rattle.readings.proofs.check_surface.Goals.{else-is_finite-via-then-is_finite+else-is_finite-2, else-is_finite-via-else-is_finite}
+use Rattle.readings.specs.declared.Reading.{Reading}
+use Rattle.readings.specs.Check.{pressures, placed_for, in_order, checked_for}
+use Rattle.readings.proofs.Placing.{level_stops, level_passes, surface_place, of_given}
+use Rattle.readings.proofs.check_surface.Goals.{After-finite, In-true}
 use Rattle.readings.proofs.check_surface.Goals as goal
 
-by_tests : (w : Purpose) (s t : Float) {a b : Bool} → finite s ≡ a → finite t ≡ b → in_order w (some (surface_of s t)) (yes_no (a && b)) ≡ checked_for w (Report.Surface s t)
-unfolding checked_for
-by_tests w s t e f = rw (e, f)
+-- what check 2 finds leads to the report's answer
+by_finite : (c : After-finite) → in_order c.args.purpose (Some c.surface-reading.result) c.finite.result ≡ checked_for c.args.purpose (Report.Surface c.args.salinity c.args.temperature)
+by_finite c = ap (in_order c.args.purpose (Some c.surface-reading.result)) c.finite.ensures ∙ of_given c.args.purpose (Report.Surface c.args.salinity c.args.temperature) (ap Some (sym c.surface-reading.ensures))
 
-pub is_finite-requires : goal.is_finite-requires
-is_finite-requires c = search rules
+passed : (c : In-true) → placed_for c.args.purpose c.surface-reading.result ≡ checked_for c.args.purpose (Report.Surface c.args.salinity c.args.temperature)
+passed c = ap (in_order c.args.purpose (Some c.surface-reading.result)) (sym c.in-true.is) ∙ by_finite c.before
 
-pub is_finite-requires-then-is_finite : goal.is_finite-requires-then-is_finite
-is_finite-requires-then-is_finite c = search rules
+pub returns-in_default : goal.returns-in_default
+returns-in_default c =
+    ap (in_order c.args.purpose (Some c.surface-reading.result)) c.in_default.ensures ∙ of_given c.args.purpose (Report.Surface c.args.salinity c.args.temperature) (ap Some (sym c.surface-reading.ensures))
 
-pub placed_at_surface-requires : goal.placed_at_surface-requires
-placed_at_surface-requires c = search rules
-
-pub returns-then-is_finite-2 : goal.returns-then-is_finite-2
-returns-then-is_finite-2 c =
-    c.placed_at_surface.ensures
-    ∙ by_tests _ _ _ (sym c.is_finite.ensures ∙ c.if-is_finite.true) (sym c.is_finite-then-is_finite.ensures ∙ c.if-is_finite-2.true)
+pub returns-in_err-sigma : goal.returns-in_err-sigma
+returns-in_err-sigma c =
+    let same : c.from_residual.result ≡ Err c.in_err-sigma.field-0.0 = search rules in
+    same ∙ sym (level_stops c.args.purpose c.surface-reading.result (sym c.level.ensures ∙ c.in_err-sigma.was)) ∙ passed (goal.at.returns-in_err-sigma c).In-true
 
 pub returns : goal.returns
 returns c =
-    let a = c.args in
-    let e = sym c.is_finite.ensures in
-    elim c.else-is_finite.branch [
-      | else-is_finite-via-then-is_finite+else-is_finite-2 w ↦ by_tests a.purpose a.salinity a.temperature (e ∙ w.if-is_finite.true) (sym w.is_finite-then-is_finite.ensures ∙ w.if-is_finite-2.false)
-      | else-is_finite-via-else-is_finite w ↦ by_tests a.purpose a.salinity a.temperature (e ∙ w.if-is_finite.false) refl
-    ]
+    let nought = ap (λ (r : Reading). place_of pressures r.pressure) c.surface-reading.ensures ∙ surface_place in
+    ap Ok c.put_together.ensures ∙ level_passes c.args.purpose c.surface-reading.result (sym c.level.ensures ∙ c.in_ok-sigma.was) nought ∙ passed (goal.at.returns c).In-true

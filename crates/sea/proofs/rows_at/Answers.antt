@@ -1,6 +1,5 @@
 -- `sea::rows_at` meets its contract: each row asks and gives what Grid says of the i-th. Assumes nothing.
 use mathlib.Core.Path.{◌≡◌, ◌∙◌}
-use borrow.Author.Rules.{rules}
 use lib.IntN.{ℤ}
 use Rattle.whole.specs.Arith.{row_value}
 use Rattle.whole.proofs.Words.{word, given}
@@ -11,149 +10,101 @@ use Rattle.sea.proofs.Grid.{row_asks, row_gives}
 use Rattle.sea.proofs.rows_at.Goals.{After-row_value, After-row_value-10, After-row_value-11, After-row_value-12, After-row_value-2, After-row_value-3, After-row_value-4, After-row_value-5, After-row_value-6, After-row_value-7, After-row_value-8, After-row_value-9}
 use Rattle.sea.proofs.rows_at.Goals as goal
 
-pub bounds-table-0 : goal.bounds-table-0
-bounds-table-0 c = search rules
-
-pub row_value-requires : goal.row_value-requires
+pub row_value-requires-clause-partial_small : goal.row_value-requires-clause-partial_small
 unfolding table Dw Ds Dr Dss Kw Ks Kr Aw As Ar Bw Bs
-row_value-requires c =
-    let p = let b = c in row_asks 0 b.ranges.tau b.requires in record { t_small = p.0; partial_small = p.1 }
+row_value-requires-clause-partial_small c = row_asks 0 c.args.tau.in_range
 
-pub bounds-table-1 : goal.bounds-table-1
-bounds-table-1 c = search rules
-
-pub row_value-requires-2 : goal.row_value-requires-2
+pub row_value-requires-2-clause-partial_small : goal.row_value-requires-2-clause-partial_small
 unfolding table Dw Ds Dr Dss Kw Ks Kr Aw As Ar Bw Bs
-row_value-requires-2 c =
-    let p = let b = c in row_asks 1 b.ranges.tau b.requires in record { t_small = p.0; partial_small = p.1 }
+row_value-requires-2-clause-partial_small c = row_asks 1 c.args.tau.in_range
 
-pub bounds-table-2 : goal.bounds-table-2
-bounds-table-2 c = search rules
-
-pub row_value-requires-3 : goal.row_value-requires-3
+pub row_value-requires-3-clause-partial_small : goal.row_value-requires-3-clause-partial_small
 unfolding table Dw Ds Dr Dss Kw Ks Kr Aw As Ar Bw Bs
-row_value-requires-3 c =
-    let p = let b = c in row_asks 2 b.ranges.tau b.requires in record { t_small = p.0; partial_small = p.1 }
+row_value-requires-3-clause-partial_small c = row_asks 2 c.args.tau.in_range
 
-pub bounds-table-3 : goal.bounds-table-3
-bounds-table-3 c = search rules
-
-pub row_value-requires-4 : goal.row_value-requires-4
+pub row_value-requires-4-clause-partial_small : goal.row_value-requires-4-clause-partial_small
 unfolding table Dw Ds Dr Dss Kw Ks Kr Aw As Ar Bw Bs
-row_value-requires-4 c =
-    let p = let b = c in row_asks 3 b.ranges.tau b.requires in record { t_small = p.0; partial_small = p.1 }
+row_value-requires-4-clause-partial_small c = row_asks 3 c.args.tau.in_range
 
-pub bounds-table-4 : goal.bounds-table-4
-bounds-table-4 c = search rules
-
-pub row_value-requires-5 : goal.row_value-requires-5
+pub row_value-requires-5-clause-partial_small : goal.row_value-requires-5-clause-partial_small
 unfolding table Dw Ds Dr Dss Kw Ks Kr Aw As Ar Bw Bs
-row_value-requires-5 c =
-    let p = let b = c in row_asks 4 b.ranges.tau b.requires in record { t_small = p.0; partial_small = p.1 }
+row_value-requires-5-clause-partial_small c = row_asks 4 c.args.tau.in_range
 
-pub bounds-table-5 : goal.bounds-table-5
-bounds-table-5 c = search rules
-
-pub row_value-requires-6 : goal.row_value-requires-6
+pub row_value-requires-6-clause-partial_small : goal.row_value-requires-6-clause-partial_small
 unfolding table Dw Ds Dr Dss Kw Ks Kr Aw As Ar Bw Bs
-row_value-requires-6 c =
-    let p = let b = c in row_asks 5 b.ranges.tau b.requires in record { t_small = p.0; partial_small = p.1 }
+row_value-requires-6-clause-partial_small c = row_asks 5 c.args.tau.in_range
 
-pub bounds-table-6 : goal.bounds-table-6
-bounds-table-6 c = search rules
-
-pub row_value-requires-7 : goal.row_value-requires-7
+pub row_value-requires-7-clause-partial_small : goal.row_value-requires-7-clause-partial_small
 unfolding table Dw Ds Dr Dss Kw Ks Kr Aw As Ar Bw Bs
-row_value-requires-7 c =
-    let p = let b = c in row_asks 6 b.ranges.tau b.requires in record { t_small = p.0; partial_small = p.1 }
+row_value-requires-7-clause-partial_small c = row_asks 6 c.args.tau.in_range
 
-pub bounds-table-7 : goal.bounds-table-7
-bounds-table-7 c = search rules
-
-pub row_value-requires-8 : goal.row_value-requires-8
+pub row_value-requires-8-clause-partial_small : goal.row_value-requires-8-clause-partial_small
 unfolding table Dw Ds Dr Dss Kw Ks Kr Aw As Ar Bw Bs
-row_value-requires-8 c =
-    let p = let b = c in row_asks 7 b.ranges.tau b.requires in record { t_small = p.0; partial_small = p.1 }
+row_value-requires-8-clause-partial_small c = row_asks 7 c.args.tau.in_range
 
-pub bounds-table-8 : goal.bounds-table-8
-bounds-table-8 c = search rules
-
-pub row_value-requires-9 : goal.row_value-requires-9
+pub row_value-requires-9-clause-partial_small : goal.row_value-requires-9-clause-partial_small
 unfolding table Dw Ds Dr Dss Kw Ks Kr Aw As Ar Bw Bs
-row_value-requires-9 c =
-    let p = let b = c in row_asks 8 b.ranges.tau b.requires in record { t_small = p.0; partial_small = p.1 }
+row_value-requires-9-clause-partial_small c = row_asks 8 c.args.tau.in_range
 
-pub bounds-table-9 : goal.bounds-table-9
-bounds-table-9 c = search rules
-
-pub row_value-requires-10 : goal.row_value-requires-10
+pub row_value-requires-10-clause-partial_small : goal.row_value-requires-10-clause-partial_small
 unfolding table Dw Ds Dr Dss Kw Ks Kr Aw As Ar Bw Bs
-row_value-requires-10 c =
-    let p = let b = c in row_asks 9 b.ranges.tau b.requires in record { t_small = p.0; partial_small = p.1 }
+row_value-requires-10-clause-partial_small c = row_asks 9 c.args.tau.in_range
 
-pub bounds-table-10 : goal.bounds-table-10
-bounds-table-10 c = search rules
-
-pub row_value-requires-11 : goal.row_value-requires-11
+pub row_value-requires-11-clause-partial_small : goal.row_value-requires-11-clause-partial_small
 unfolding table Dw Ds Dr Dss Kw Ks Kr Aw As Ar Bw Bs
-row_value-requires-11 c =
-    let p = let b = c in row_asks 10 b.ranges.tau b.requires in record { t_small = p.0; partial_small = p.1 }
+row_value-requires-11-clause-partial_small c = row_asks 10 c.args.tau.in_range
 
-pub bounds-table-11 : goal.bounds-table-11
-bounds-table-11 c = search rules
-
-pub row_value-requires-12 : goal.row_value-requires-12
+pub row_value-requires-12-clause-partial_small : goal.row_value-requires-12-clause-partial_small
 unfolding table Dw Ds Dr Dss Kw Ks Kr Aw As Ar Bw Bs
-row_value-requires-12 c =
-    let p = let b = c in row_asks 11 b.ranges.tau b.requires in record { t_small = p.0; partial_small = p.1 }
+row_value-requires-12-clause-partial_small c = row_asks 11 c.args.tau.in_range
 
-is_dw : (c : After-row_value) → word c.row_value.result ≡ row_value Dw c.args.tau
+is_dw : (c : After-row_value) → word c.row_value.result ≡ row_value Dw c.args.tau.number
 unfolding table Dw Ds Dr Dss Kw Ks Kr Aw As Ar Bw Bs
-is_dw c = given c.row_value.type_inv (c.row_value.ensures ∙ row_gives 0 c.ranges.tau)
+is_dw c = given c.row_value.type_inv (c.row_value.ensures ∙ row_gives 0 c.args.tau.in_range)
 
-is_ds : (c : After-row_value-2) → word c.row_value-2.result ≡ row_value Ds c.args.tau
+is_ds : (c : After-row_value-2) → word c.row_value-2.result ≡ row_value Ds c.args.tau.number
 unfolding table Dw Ds Dr Dss Kw Ks Kr Aw As Ar Bw Bs
-is_ds c = given c.row_value-2.type_inv (c.row_value-2.ensures ∙ row_gives 1 c.ranges.tau)
+is_ds c = given c.row_value-2.type_inv (c.row_value-2.ensures ∙ row_gives 1 c.args.tau.in_range)
 
-is_dr : (c : After-row_value-3) → word c.row_value-3.result ≡ row_value Dr c.args.tau
+is_dr : (c : After-row_value-3) → word c.row_value-3.result ≡ row_value Dr c.args.tau.number
 unfolding table Dw Ds Dr Dss Kw Ks Kr Aw As Ar Bw Bs
-is_dr c = given c.row_value-3.type_inv (c.row_value-3.ensures ∙ row_gives 2 c.ranges.tau)
+is_dr c = given c.row_value-3.type_inv (c.row_value-3.ensures ∙ row_gives 2 c.args.tau.in_range)
 
-is_dss : (c : After-row_value-4) → word c.row_value-4.result ≡ row_value Dss c.args.tau
+is_dss : (c : After-row_value-4) → word c.row_value-4.result ≡ row_value Dss c.args.tau.number
 unfolding table Dw Ds Dr Dss Kw Ks Kr Aw As Ar Bw Bs
-is_dss c = given c.row_value-4.type_inv (c.row_value-4.ensures ∙ row_gives 3 c.ranges.tau)
+is_dss c = given c.row_value-4.type_inv (c.row_value-4.ensures ∙ row_gives 3 c.args.tau.in_range)
 
-is_kw : (c : After-row_value-5) → word c.row_value-5.result ≡ row_value Kw c.args.tau
+is_kw : (c : After-row_value-5) → word c.row_value-5.result ≡ row_value Kw c.args.tau.number
 unfolding table Dw Ds Dr Dss Kw Ks Kr Aw As Ar Bw Bs
-is_kw c = given c.row_value-5.type_inv (c.row_value-5.ensures ∙ row_gives 4 c.ranges.tau)
+is_kw c = given c.row_value-5.type_inv (c.row_value-5.ensures ∙ row_gives 4 c.args.tau.in_range)
 
-is_ks : (c : After-row_value-6) → word c.row_value-6.result ≡ row_value Ks c.args.tau
+is_ks : (c : After-row_value-6) → word c.row_value-6.result ≡ row_value Ks c.args.tau.number
 unfolding table Dw Ds Dr Dss Kw Ks Kr Aw As Ar Bw Bs
-is_ks c = given c.row_value-6.type_inv (c.row_value-6.ensures ∙ row_gives 5 c.ranges.tau)
+is_ks c = given c.row_value-6.type_inv (c.row_value-6.ensures ∙ row_gives 5 c.args.tau.in_range)
 
-is_kr : (c : After-row_value-7) → word c.row_value-7.result ≡ row_value Kr c.args.tau
+is_kr : (c : After-row_value-7) → word c.row_value-7.result ≡ row_value Kr c.args.tau.number
 unfolding table Dw Ds Dr Dss Kw Ks Kr Aw As Ar Bw Bs
-is_kr c = given c.row_value-7.type_inv (c.row_value-7.ensures ∙ row_gives 6 c.ranges.tau)
+is_kr c = given c.row_value-7.type_inv (c.row_value-7.ensures ∙ row_gives 6 c.args.tau.in_range)
 
-is_aw : (c : After-row_value-8) → word c.row_value-8.result ≡ row_value Aw c.args.tau
+is_aw : (c : After-row_value-8) → word c.row_value-8.result ≡ row_value Aw c.args.tau.number
 unfolding table Dw Ds Dr Dss Kw Ks Kr Aw As Ar Bw Bs
-is_aw c = given c.row_value-8.type_inv (c.row_value-8.ensures ∙ row_gives 7 c.ranges.tau)
+is_aw c = given c.row_value-8.type_inv (c.row_value-8.ensures ∙ row_gives 7 c.args.tau.in_range)
 
-is_as : (c : After-row_value-9) → word c.row_value-9.result ≡ row_value As c.args.tau
+is_as : (c : After-row_value-9) → word c.row_value-9.result ≡ row_value As c.args.tau.number
 unfolding table Dw Ds Dr Dss Kw Ks Kr Aw As Ar Bw Bs
-is_as c = given c.row_value-9.type_inv (c.row_value-9.ensures ∙ row_gives 8 c.ranges.tau)
+is_as c = given c.row_value-9.type_inv (c.row_value-9.ensures ∙ row_gives 8 c.args.tau.in_range)
 
-is_ar : (c : After-row_value-10) → word c.row_value-10.result ≡ row_value Ar c.args.tau
+is_ar : (c : After-row_value-10) → word c.row_value-10.result ≡ row_value Ar c.args.tau.number
 unfolding table Dw Ds Dr Dss Kw Ks Kr Aw As Ar Bw Bs
-is_ar c = given c.row_value-10.type_inv (c.row_value-10.ensures ∙ row_gives 9 c.ranges.tau)
+is_ar c = given c.row_value-10.type_inv (c.row_value-10.ensures ∙ row_gives 9 c.args.tau.in_range)
 
-is_bw : (c : After-row_value-11) → word c.row_value-11.result ≡ row_value Bw c.args.tau
+is_bw : (c : After-row_value-11) → word c.row_value-11.result ≡ row_value Bw c.args.tau.number
 unfolding table Dw Ds Dr Dss Kw Ks Kr Aw As Ar Bw Bs
-is_bw c = given c.row_value-11.type_inv (c.row_value-11.ensures ∙ row_gives 10 c.ranges.tau)
+is_bw c = given c.row_value-11.type_inv (c.row_value-11.ensures ∙ row_gives 10 c.args.tau.in_range)
 
-is_bs : (c : After-row_value-12) → word c.row_value-12.result ≡ row_value Bs c.args.tau
+is_bs : (c : After-row_value-12) → word c.row_value-12.result ≡ row_value Bs c.args.tau.number
 unfolding table Dw Ds Dr Dss Kw Ks Kr Aw As Ar Bw Bs
-is_bs c = given c.row_value-12.type_inv (c.row_value-12.ensures ∙ row_gives 11 c.ranges.tau)
+is_bs c = given c.row_value-12.type_inv (c.row_value-12.ensures ∙ row_gives 11 c.args.tau.in_range)
 
 -- twelve values that are the rows' are the rows
 rows_are : (τ : ℤ) {d-w d-s d-r d-ss k-w k-s k-r a-w a_s a_r b-w b_s : ℤ} → d-w ≡ row_value Dw τ → d-s ≡ row_value Ds τ → d-r ≡ row_value Dr τ → d-ss ≡ row_value Dss τ → k-w ≡ row_value Kw τ → k-s ≡ row_value Ks τ → k-r ≡ row_value Kr τ → a-w ≡ row_value Aw τ → a_s ≡ row_value As τ → a_r ≡ row_value Ar τ → b-w ≡ row_value Bw τ → b_s ≡ row_value Bs τ →
@@ -163,7 +114,7 @@ rows_are τ e1 e2 e3 e4 e5 e6 e7 e8 e9 e10 e11 e12 = rw (e1, e2, e3, e4, e5, e6,
 
 pub returns : goal.returns
 returns c =
-    rows_are c.args.tau
+    rows_are c.args.tau.number
     (is_dw (goal.at.returns c).After-row_value)
     (is_ds (goal.at.returns c).After-row_value-2)
     (is_dr (goal.at.returns c).After-row_value-3)

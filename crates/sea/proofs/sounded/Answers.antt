@@ -1,34 +1,28 @@
 -- `sea::sounded` meets its contract: one parcel, under its own pressure and under the other where that is another. Assumes nothing.
-use mathlib.Core.Path.{◌≡◌, refl, sym, ap, ◌∙◌}
-use Prim.Native.Nat.{ℕ}
-use lib.IntN.{ℤ, pos}
-use mir.Syntax.{w64}
-use mir.Val.{SFits, to_z}
-use mir.ValLaws.{to_z-of_z}
+use mathlib.Core.Path.{◌≡◌, refl, ◌∙◌}
+use borrow.Author.Rules.{rules}
+use Prim.Native.Nat.{ℕ, ◌≤◌}
+use native.Mathlib.Omega.{arith}
+use lib.IntN.{ℤ}
 use Rattle.whole.specs.Arith.{plus}
-use Rattle.whole.proofs.Words.{word}
+use Rattle.sea.specs.declared.range.Within.{Within}
 use Rattle.sea.specs.Recipe.{bulk, bulk_of, shown_of, shown_at, modulus_at, parcel_of, parcel_at, pressed_of}
-use Rattle.sea.specs.Sizes.{Lies, Stiff, Ranges}
-use Rattle.sea.proofs.Grid.{natural, lies_word, parcel_stiff, parcel_ranges}
-use Rattle.sea.proofs.sounded.Goals.{After-parcel_at-water, After-pressed-own}
+use Rattle.sea.specs.Sizes.{Stiff, Ranges}
+use Rattle.sea.proofs.Grid.{natural, wider, parcel_stiff, parcel_ranges}
+use Rattle.sea.proofs.sounded.Goals.{After-parcel_at-water, After-pressed-density}
 use Rattle.sea.proofs.sounded.Goals as goal
 
-parcel_is : (c : After-parcel_at-water) → c.parcel_at-water.result ≡ parcel_at (plus c.args.sigma) c.args.tau
-parcel_is c = let b = c in c.parcel_at-water.ensures ∙ rw (to_z-of_z w64 b.args.sigma b.ranges.sigma, to_z-of_z w64 b.args.tau b.ranges.tau)
-
 -- what `pressed` asks for, of the parcel at any pressure of the grid
-asks : (c : After-parcel_at-water) (π : ℤ) → SFits w64 π → Lies (pos 0) (pos 100_000) π →
-    let x = c.parcel_at-water.result in Lies (pos 0) (pos 100_000) (word π) × (Stiff x (word π) × Ranges x.d (bulk x.k0 x.a x.b (plus (word π))) (plus (word π)))
-asks c π f l =
-    let b = c in
-    let t = b.requires.on_table in
-    let σ = plus b.args.sigma in (
-      lies_word f l,
-      rw (parcel_is c, to_z-of_z w64 π f) (
-        parcel_stiff σ b.args.tau π (natural t.salinity).most t.temperature l,
-        parcel_ranges σ b.args.tau π (natural t.salinity).most t.temperature l,
-      ),
-    )
+stiff : (c : After-parcel_at-water) {n : ℕ} (π : Within 0 n) → n ≤ 100_000 → Stiff c.parcel_at-water.result π.number
+stiff c π h =
+    let a = c.args in
+    rw c.parcel_at-water.ensures (parcel_stiff (plus a.sigma.number) a.tau.number π.number (natural a.sigma.in_range).most a.tau.in_range (wider h (natural π.in_range)))
+
+ranges : (c : After-parcel_at-water) {n : ℕ} (π : Within 0 n) → n ≤ 100_000 →
+    let x = c.parcel_at-water.result in Ranges x.d (bulk x.k0 x.a x.b (plus π.number)) (plus π.number)
+ranges c π h =
+    let a = c.args in
+    rw c.parcel_at-water.ensures (parcel_ranges (plus a.sigma.number) a.tau.number π.number (natural a.sigma.in_range).most a.tau.in_range (wider h (natural π.in_range)))
 
 -- and what it gives: the recipe's density and bulk modulus there
 density_of : (σ : ℕ) (τ : ℤ) (π : ℕ) → (pressed_of (parcel_at σ τ) π).density ≡ shown_at σ τ π
@@ -39,35 +33,35 @@ bulk_of_lem : (σ : ℕ) (τ : ℤ) (π : ℕ) → (pressed_of (parcel_at σ τ)
 unfolding parcel_at parcel_of modulus_at bulk_of pressed_of
 bulk_of_lem σ τ π = refl
 
-own_is : (c : After-pressed-own) → c.pressed-own.result ≡ pressed_of (parcel_at (plus c.args.sigma) c.args.tau) (plus c.args.pi)
-own_is c = let b = c in c.pressed-own.ensures ∙ rw (parcel_is c.before, to_z-of_z w64 b.args.pi b.ranges.pi)
+own_is : (c : After-pressed-density) → c.pressed-density.result ≡ pressed_of (parcel_at (plus c.args.sigma.number) c.args.tau.number) (plus c.args.pi.number)
+own_is c = c.pressed-density.ensures ∙ rw c.parcel_at-water.ensures
 
-pub parcel_at-water-requires : goal.parcel_at-water-requires
-parcel_at-water-requires c = let t = c.requires.on_table in record { salinity = lies_word c.ranges.sigma t.salinity; temperature = lies_word c.ranges.tau t.temperature }
+pub pressed-density-requires-clause-stiff : goal.pressed-density-requires-clause-stiff
+pressed-density-requires-clause-stiff c = stiff c c.args.pi (omega arith)
 
-pub pressed-own-requires : goal.pressed-own-requires
-pressed-own-requires c =
-    let p = let b = c in asks c b.args.pi b.ranges.pi b.requires.on_table.pressure in record { pressure = p.0; stiff = p.1.0; ranges = p.1.1 }
+pub pressed-density-requires-clause-ranges : goal.pressed-density-requires-clause-ranges
+pressed-density-requires-clause-ranges c = ranges c c.args.pi (omega arith)
 
 -- at its own pressure the density is the same
 pub returns-then-deep-pi : goal.returns-then-deep-pi
 returns-then-deep-pi c =
-    let b = c in
-    let σ = plus b.args.sigma in
-    let τ = b.args.tau in
-    let same : b.args.deep ≡ b.args.pi =
-    sym (to_z-of_z w64 b.args.deep b.ranges.deep) ∙ ap (to_z w64) c.if-deep-pi.true ∙ to_z-of_z w64 b.args.pi b.ranges.pi in
-    rw (own_is (goal.at.returns-then-deep-pi c).After-pressed-own, density_of σ τ (plus b.args.pi), bulk_of_lem σ τ (plus b.args.pi), same)
+    let σ = plus c.args.sigma.number in
+    let τ = c.args.tau.number in
+    let π = c.args.pi.number in
+    let same : c.args.deep.number ≡ π = search rules in
+    rw (own_is (goal.at.returns-then-deep-pi c).After-pressed-density, density_of σ τ (plus π), bulk_of_lem σ τ (plus π), same)
 
-pub pressed-other-requires : goal.pressed-other-requires
-pressed-other-requires c =
-    let p = let b = c in asks (goal.at.pressed-other-requires c).After-parcel_at-water b.args.deep b.ranges.deep b.requires.deep in record { pressure = p.0; stiff = p.1.0; ranges = p.1.1 }
+pub pressed-other-requires-clause-stiff : goal.pressed-other-requires-clause-stiff
+pressed-other-requires-clause-stiff c = stiff (goal.at.pressed-other-requires-clause-stiff c).After-parcel_at-water c.args.deep (omega arith)
+
+pub pressed-other-requires-clause-ranges : goal.pressed-other-requires-clause-ranges
+pressed-other-requires-clause-ranges c = ranges (goal.at.pressed-other-requires-clause-ranges c).After-parcel_at-water c.args.deep (omega arith)
 
 pub returns : goal.returns
 returns c =
-    let b = c in
-    let σ = plus b.args.sigma in
-    let τ = b.args.tau in
-    let other : c.pressed-other.result ≡ pressed_of (parcel_at σ τ) (plus b.args.deep) =
-    c.pressed-other.ensures ∙ rw (parcel_is (goal.at.returns c).After-parcel_at-water, to_z-of_z w64 b.args.deep b.ranges.deep) in
-    rw (own_is (goal.at.returns c).After-pressed-own, other, density_of σ τ (plus b.args.pi), bulk_of_lem σ τ (plus b.args.pi), density_of σ τ (plus b.args.deep))
+    let σ = plus c.args.sigma.number in
+    let τ = c.args.tau.number in
+    let π = plus c.args.pi.number in
+    let π' = plus c.args.deep.number in
+    let other : c.pressed-other.result ≡ pressed_of (parcel_at σ τ) π' = c.pressed-other.ensures ∙ rw c.parcel_at-water.ensures in
+    rw (own_is (goal.at.returns c).After-pressed-density, other, density_of σ τ π, bulk_of_lem σ τ π, density_of σ τ π')

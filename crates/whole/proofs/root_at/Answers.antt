@@ -19,15 +19,6 @@ w_is : (c : After-root-w) → c.root-w.result ≡ root_at (plus c.args.sigma)
 unfolding root_at
 w_is c = c.root-w.ensures ∙ ap (λ (n : ℕ). root_of (n * 100_000)) (σ_is c.before)
 
-pub unsigned-requires : goal.unsigned-requires
-unsigned-requires c = rw (to_z-of_z w64 c.args.sigma c.ranges.sigma) (natural c.requires).whole
-
-pub overflow_mul-unsigned : goal.overflow_mul-unsigned
-overflow_mul-unsigned c = record { fits = omega (arith, σ_is c, (natural c.requires).most) }
-
-pub root-w-requires : goal.root-w-requires
-root-w-requires c = omega (arith, σ_is c, (natural c.requires).most)
-
 pub signed-requires : goal.signed-requires
 signed-requires c = let b = c.before.before in omega (arith, w_is c, root_at_most (plus b.args.sigma) (natural b.requires).most)
 

@@ -8,9 +8,6 @@ use Rattle.whole.specs.Paper.{tried, after}
 use Rattle.whole.proofs.Lines.{sum_small, lower, after_next, ended_rooted}
 use Rattle.whole.proofs.searched.Goals as goal
 
-pub first-at-requires : goal.first-at-requires
-first-at-requires c = c.requires
-
 pub loop-at-init : goal.loop-at-init
 unfolding after
 loop-at-init c = ((0, c.first-at.ensures), c.requires)

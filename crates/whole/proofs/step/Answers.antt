@@ -4,13 +4,9 @@ use lib.IntN.{◌+ℤ◌}
 use mir.Syntax.{w64}
 use mir.ValLaws.{to_z-of_z}
 use Rattle.whole.specs.Arith.{scaled}
-use Rattle.whole.proofs.Words.{word, word_as, fits_as, product_small, step_fits}
+use Rattle.whole.proofs.Words.{word, word_as, fits_as, step_fits}
 use Rattle.whole.proofs.step.Goals.{After-scaled}
 use Rattle.whole.proofs.step.Goals as goal
-
-pub scaled-requires : goal.scaled-requires
-scaled-requires c =
-    rw (to_z-of_z w64 c.args.h c.ranges.h, to_z-of_z w64 c.args.x c.ranges.x) (product_small c.requires.h_small c.requires.x_small)
 
 sum : (c : After-scaled) → word c.args.c +ℤ word c.scaled.result ≡ c.args.c +ℤ scaled c.args.h c.args.x
 sum c =

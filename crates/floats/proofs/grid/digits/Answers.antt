@@ -1,5 +1,4 @@
 -- `digits` meets its contract: by the two tests, on the exponent's field and on the sign. Assumes nothing.
-use borrow.Author.Rules.{rules}
 use borrow.Author.Tests.{eq-eqb, ne_eqb, le-leb, lt-leb}
 use mathlib.Core.Path.{◌≡◌, ap, ◌∙◌}
 use mathlib.Core.Bool.{cond}
@@ -19,18 +18,6 @@ m_is j = elim j.if-e-eq0.branch [ then-e-eq0 w ↦ rw (eq-eqb j.args.e 0 w.if-e-
 
 few : (j : Joined-e-eq0) → j.if-e-eq0.m < 2 ^ 63
 few j = elim j.if-e-eq0.branch [ then-e-eq0 w ↦ omega arith | else-e-eq0 w ↦ omega arith ]
-
-pub overflow_add-m : goal.overflow_add-m
-overflow_add-m c = search rules
-
-pub overflow_cast-result : goal.overflow_cast-result
-overflow_cast-result c = record { sfits = few c.before.before }
-
-pub overflow_cast-result-else-n-lt2147483648 : goal.overflow_cast-result-else-n-lt2147483648
-overflow_cast-result-else-n-lt2147483648 c = record { sfits = few c.before.before }
-
-pub overflow_sub-result : goal.overflow_sub-result
-overflow_sub-result c = rw (to_z_pos w64 _ (few c.before.before)) (neg_fits (pos c.if-e-eq0.m) (few c.before.before))
 
 pub returns-then-n-lt2147483648 : goal.returns-then-n-lt2147483648
 unfolding digits_of

@@ -1,7 +1,7 @@
 -- `is_finite` meets its contract: of all floats only a finite one is between the infinities. Assumes nothing.
 use mathlib.Core.Path.{◌≡◌, refl, sym}
 use mathlib.Core.Bool.{true, false}
-use lib.Ieee.{Float, nan, inf, fin, lt, neg, div, of_bits}
+use lib.Ieee.{Float, nan, inf, fin, lt, of_bits}
 use Rattle.floats.specs.Grid.{finite}
 use Rattle.floats.proofs.grid.is_finite.Goals as goal
 
@@ -19,10 +19,10 @@ above (inf true) h = refl
 above (inf false) h = h
 above (fin s m e) h = refl
 
-pub returns-then-infinity-x : goal.returns-then-infinity-x
-unfolding div neg of_bits
-returns-then-infinity-x c = below c.args.x c.if-infinity-x.true
+pub returns-then-x : goal.returns-then-x
+unfolding of_bits
+returns-then-x c = below c.args.x c.if-x.true
 
-pub returns-else-infinity-x : goal.returns-else-infinity-x
-unfolding div neg of_bits
-returns-else-infinity-x c = above c.args.x c.if-infinity-x.false
+pub returns-else-x : goal.returns-else-x
+unfolding of_bits
+returns-else-x c = above c.args.x c.if-x.false

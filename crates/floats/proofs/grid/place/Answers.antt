@@ -14,7 +14,6 @@ use Rattle.whole.proofs.Words.{fits_size, fits_as, word, word_as, given}
 use Rattle.floats.specs.Grid.{inside, place_of}
 use Rattle.floats.specs.Pattern.{digits_of}
 use Rattle.floats.proofs.Patterns.{field, outside, at_62, at_field, steps_few}
-use borrow.Author.Rules.{rules}
 use Rattle.floats.proofs.grid.place.Goals.{then-e-lt88, else-e-lt88, After-digits, Start}
 use Rattle.floats.proofs.grid.place.Goals as goal
 
@@ -41,15 +40,6 @@ returns-then-e-ge150 c =
     let s = c.before.before in
     outside s.args.lo s.args.hi s.args.k s.args.x (held s) s.requires.k_least s.requires.lo_small s.requires.hi_small c.if-e-ge150.true
 
-pub overflow_sub-s : goal.overflow_sub-s
-overflow_sub-s c = search rules
-
-pub digits-requires : goal.digits-requires
-digits-requires c = search rules
-
-pub overflow_cast-w : goal.overflow_cast-w
-overflow_cast-w c = search rules
-
 -- w is the digits times k, small enough for a word
 abbrev steps : Start → ℤ
 steps s = let n = to_bits binary32 s.args.x in digits_of n (field n) *ℤ pos s.args.k
@@ -69,10 +59,8 @@ product c =
 pub overflow_mul-w : goal.overflow_mul-w
 overflow_mul-w c = fits_as (product c) (whole c.before.before.before.before)
 
-pub place_at-requires : goal.place_at-requires
-place_at-requires c =
-    let s = c.before.before.before.before in
-    record { w_small = rw (word_as (product c) (whole s)) (few s); shift = elim c.if-e-lt88.branch [ then-e-lt88 w ↦ omega arith | else-e-lt88 w ↦ omega arith ] }
+pub place_at-requires-clause-w_small : goal.place_at-requires-clause-w_small
+place_at-requires-clause-w_small c = let s = c.before.before.before.before in rw (word_as (product c) (whole s)) (few s)
 
 pub returns : goal.returns
 returns c =

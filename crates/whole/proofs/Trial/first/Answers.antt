@@ -2,8 +2,7 @@
 use mathlib.Core.Path.{◌≡◌}
 use Prim.Native.Nat.{◌-◌, ◌/◌, ◌*◌, ◌≤◌, ◌^◌, ◌%◌}
 use native.Mathlib.Omega.{arith}
-use borrow.Author.Rules.{rules}
-use lib.Count.{count_leading_zeros, leading_le}
+use lib.Count.{count_leading_zeros}
 use lib.Pow.{shl_exact}
 use lib.Dec.{lit<}
 use Rattle.whole.specs.Paper.{pairs_of, begun}
@@ -14,12 +13,6 @@ use Rattle.whole.proofs.Trial.first.Goals as goal
 few : (c : Start) → (65 - count_leading_zeros 64 c.args.n) / 2 ≤ 31
 unfolding pairs_of
 few c = pairs_within c.args.n 31 (omega (arith, c.requires)) c.requires
-
-pub overflow_sub-pairs : goal.overflow_sub-pairs
-overflow_sub-pairs c = omega (arith, leading_le 64 c.args.n)
-
-pub overflow_cast-bit : goal.overflow_cast-bit
-overflow_cast-bit c = search rules
 
 pub overflow_shl-bit-2 : goal.overflow_shl-bit-2
 overflow_shl-bit-2 c = omega (arith, few c)
