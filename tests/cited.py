@@ -20,7 +20,7 @@ READ = [p for crate in CRATES.iterdir() for part in ("src", "specs", "proofs") f
 TEXTS = {p: p.read_text(encoding="utf-8") for p in READ}
 LAWS = {p: re.sub(r"(?m)(?:--|//) .*$", "", text) for p, text in TEXTS.items()}  # without comments
 
-INNER = {("whole", "*"), ("freezing", "*"), ("floats", "grid.place"), ("cells", "*"), ("texts", "put_line"), ("pages", "write")}  # they ask for sizes or room, and their callers see to it
+INNER = {("whole", "*"), ("freezing", "*"), ("floats", "grid.Range.place"), ("cells", "*"), ("texts", "put_line"), ("pages", "write")}  # they ask for sizes or room, and their callers see to it
 
 wrong = []
 
@@ -137,8 +137,8 @@ def functions():
                     told = r"(?<=[ (])%s\.Learnt (?:[a-z] )*κs a r s → %s\.Learnt (?:[a-z] )*κs a r' s'"  # a generic function's types come first
                     hold(not alias or len(re.findall(told % (alias[1], alias[1]), laws)) == 1, f"no law: {crate}::{path}")
                     if alias and not {(crate, "*"), (crate, path)} & INNER:
-                        asked = r"%s\.Asked (?:[a-z] )*κs a\n\1 (?:[a-z] )*κs a" % re.escape(alias[1])  # of a type that holds no loan, where it is any type
-                        free = r"(?m)^pub (free_\w+) : .* → (?:%s = tt|t\.lives ≡ \[\] → %s e = .*)$" % (asked, asked.replace("\\1", "\\1"))
+                        asked = r"%s\.Asked (?:[a-z] )*κs a\n\1 (?:[a-z] )*κs a" % re.escape(alias[1])  # of types that hold no loan, where they are any types
+                        free = r"(?m)^pub (free_\w+) : .* → (?:%s = tt|(?:[a-z]\.lives ≡ \[\] → )+%s(?: [a-z])+ = .*)$" % (asked, asked.replace("\\1", "\\1"))
                         hold(re.search(free, laws), f"no law that nothing is asked: {crate}::{path}")
                     name = found[1].removeprefix("warpsorrel_")
                     hold(re.search(r"`(?:[\w:]+::|warpsorrel_)?%s`" % name, PAGE), f"a public function that the page does not name: {crate}::{path}")

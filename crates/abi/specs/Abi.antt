@@ -31,7 +31,7 @@ entry_of kind probe s t p = entry_by kind probe s t p (kind_of kind)
 -- Noughts if refused: 0 is no remark
 abbrev pub channel_words : Channel → List ℤ
 channel_words (Ok a) =
-    a.at.sigma ∷ a.at.tau ∷ a.at.pi ∷ pos a.density ∷ pos a.bulk
+    a.at.sigma ∷ a.at.tau ∷ a.at.pi ∷ pos a.water.density ∷ pos a.water.bulk
     ∷ pos (remark_number a.remarks.salinity) ∷ pos (remark_number a.remarks.temperature) ∷ pos (remark_number a.remarks.pressure) ∷ []
 channel_words (Err r) = pos 0 ∷ pos 0 ∷ pos 0 ∷ pos 0 ∷ pos 0 ∷ pos 0 ∷ pos 0 ∷ pos 0 ∷ []
 

@@ -21,7 +21,8 @@ fn unread(kind: u32) -> Unread
     }
 }
 
-// What a kind, a probe's number and three floats, as a C call has them, stand for. The number is taken with either of a report's two kinds.
+// What a kind, a probe's number and three floats, as a C call has them, stand for. The number is taken with either of a report's two kinds. (`usize`
+// has no `From<u32>`.)
 #[tactic(auto, unfolding(crate::specs::Abi::entry_of))]
 pub fn entry_of(kind: u32, probe: u16, salinity: f32, temperature: f32, pressure: f32) -> Entry
     ensures { result ≡ entry_of kind probe salinity temperature pressure }
@@ -41,14 +42,14 @@ pub fn put_pair(found: Option<Comparison>, out: &mut [i64; 8])
 {
     *out = match found {
         Some(pair) => [
-            refusals::number(&pair.left) as i64,
-            channels::density(pair.left) as i64,
-            channels::bulk(pair.left) as i64,
-            refusals::number(&pair.right) as i64,
-            channels::density(pair.right) as i64,
-            channels::bulk(pair.right) as i64,
-            channels::number(pair.needle) as i64,
-            channels::value(pair.needle),
+            i64::from(refusals::number(&pair.left)),
+            i64::from(waters::density(channels::water(pair.left))),
+            i64::from(waters::bulk(channels::water(pair.left))),
+            i64::from(refusals::number(&pair.right)),
+            i64::from(waters::density(channels::water(pair.right))),
+            i64::from(waters::bulk(channels::water(pair.right))),
+            i64::from(refusals::number(&pair.needle)),
+            pair.needle.unwrap_or(0),
         ],
         None => [0; 8],
     };

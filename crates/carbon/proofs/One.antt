@@ -2,18 +2,11 @@
 -- dropped clause breaks these laws. Assumes nothing.
 use mathlib.Core.Path.{◌≡◌, sym, ◌∙◌}
 use contract.Lifetimes
-use Rattle.carbon.proofs.value.Reads as value
 use Rattle.carbon.proofs.answer.Reads as answer
-
-pub one_value : (κs : Lifetimes.Lfts 0) (a : _) (r r' : _) (s s' : _) → value.Learnt κs a r s → value.Learnt κs a r' s' → r ≡ r'
-one_value κs a r r' s s' e f = e ∙ sym f
 
 pub one_answer : (κs : Lifetimes.Lfts 0) (a : _) (r r' : _) (s s' : _) → answer.Learnt κs a r s → answer.Learnt κs a r' s' → r ≡ r'
 one_answer κs a r r' s s' e f = e ∙ sym f
 
 -- ---- nothing is asked of the caller: `Asked` is what a contract requires
-pub free_value : (κs : Lifetimes.Lfts 0) (a : _) → value.Asked κs a
-free_value κs a = tt
-
 pub free_answer : (κs : Lifetimes.Lfts 0) (a : _) → answer.Asked κs a
 free_answer κs a = tt

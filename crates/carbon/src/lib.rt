@@ -4,20 +4,13 @@
 ghost use Rattle.std.specs.Prelude.{◌≡◌, ◌+◌, ◌≤◌, nat_abs};
 ghost use Rattle.whole.specs.Arith.{plus, minus, scaled, row_value};
 ghost use Rattle.carbon.specs.Weiss.{rest_terms, odd, ln_t, by_cold, by_log, salts, kelvin, ln_k0};
-ghost use Rattle.carbon.specs.Carbon.{unpressed, solubility_of, solubility_value};
+ghost use Rattle.carbon.specs.Carbon.{unpressed, solubility_of};
 
 use readings::{Entry, Purpose, Report};
 use refusals::Refusal;
 
 // ln K0 in millionths, or why not.
 pub type Solubility = Result<i64, Refusal>;
-
-// The value for each case: a refused one has 0. (Its number is `refusals::number`.)
-pub fn value(answer: Solubility) -> i64
-    ensures { result ≡ solubility_value answer }
-{
-    answer.unwrap_or(0)
-}
 
 // ln 3 in 10^-11, from 16 terms of its series.
 const LN3: u64 = 109_861_228_850;

@@ -2,8 +2,10 @@
 use mathlib.Core.Path.{◌≡◌, refl}
 use mathlib.Core.List.{[], ◌∷◌}
 use lib.IntN.{pos, negsuc}
+use Prim.Native.Nat.{ℕ}
+use Rattle.std.specs.Prelude.{Ok, Err}
 use Rattle.cells.specs.declared.Cell.TheVariants.{Fixed, Refusal, Word}
-use Rattle.cells.specs.Cells.{spelled, decimal, word_text, pointed, whole, cell_text, row_text}
+use Rattle.cells.specs.Cells.{spelled, decimal, word_text, pointed, whole, answer_cell, cell_text, row_text}
 
 -- 0, 9, 10, 99999 and -1
 pub plain_bytes :
@@ -37,6 +39,10 @@ pub other_bytes :
     × (cell_text (Word 0x73616c696e697479) ≡ 115 ∷ 97 ∷ 108 ∷ 105 ∷ 110 ∷ 105 ∷ 116 ∷ 121 ∷ []))
 unfolding cell_text word_text decimal spelled
 other_bytes = (refl, (refl, refl))
+
+-- answers: -62 with three places, and one that is refused by 5
+pub answer_cells : (answer_cell {E = ℕ} (λ n. n) 3 (Ok (negsuc 61)) ≡ Fixed 3 (negsuc 61)) × (answer_cell (λ n. n) 3 (Err 5) ≡ Refusal 5)
+answer_cells = (refl, refl)
 
 -- rows of no cell, of one, of three with commas: "12,R3,-0.5"; of two with a bar: "1|2"
 pub row_bytes :

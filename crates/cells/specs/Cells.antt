@@ -1,5 +1,5 @@
 -- The bytes of a row of cells, of which every printed line is made.
-use Rattle.std.specs.Prelude.{ℕ, zero, suc, ◌+◌, ◌/◌, ◌%◌, ◌≡◌, List, [], ◌∷◌, ◌++◌, cond, length, take, drop, ℤ, pos, negsuc, ltb}
+use Rattle.std.specs.Prelude.{ℕ, zero, suc, ◌+◌, ◌/◌, ◌%◌, ◌≡◌, List, [], ◌∷◌, ◌++◌, cond, length, take, drop, ℤ, pos, negsuc, ltb, Result, Ok, Err}
 use Rattle.std.proofs.lemmas.List.Edits.{sets}
 use Rattle.cells.specs.declared.Cell.{Cell}
 use Rattle.cells.specs.declared.Cell.TheVariants.{Fixed, Refusal, Word}
@@ -36,6 +36,11 @@ number_text k (negsuc n) = 45 ∷ fixed_text k (suc n)
 -- a cell is a number with k decimal places from its whole number, R and a number, or a word; this one has no places
 abbrev pub whole : ℤ → Cell
 whole z = Fixed 0 z
+
+-- an answer: its number with k decimal places, or R and the number of why there is none
+abbrev pub answer_cell : {E : Type 0} → (E → ℕ) → ℕ → Result ℤ E → Cell
+answer_cell numbered k (Ok z) = Fixed k z
+answer_cell numbered k (Err e) = Refusal (numbered e)
 
 -- what a cell shows; R is byte 82
 unfoldable pub cell_text : Cell → List ℕ

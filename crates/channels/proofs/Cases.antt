@@ -7,8 +7,9 @@ use Rattle.refusals.specs.declared.Refusal.{Refusal}
 use Rattle.readings.specs.declared.Point.{Point}
 use Rattle.readings.specs.declared.Remarks.{Remarks}
 use Rattle.std.specs.Prelude.{Ok, Err}
+use Rattle.std.specs.Result.{result_unwrap_or}
 use Rattle.channels.specs.declared.Stop.{Stop}
-use Rattle.channels.specs.Answer.{Channel, channel_at}
+use Rattle.channels.specs.Answer.{Channel, Needle, channel_at}
 use Rattle.channels.specs.Numbers.{channel_number, channel_density, channel_bulk, needle_number, needle_value}
 
 -- salinity 35 at the surface and 5 °C, wherever it stands and whatever is remarked
@@ -32,3 +33,8 @@ refused_needle = (refl, refl)
 
 pub stopped_needle : (needle_number (Err (Stop.Left Refusal.Temperature)) ≡ 104) × (needle_number (Err Stop.SameProbe) ≡ 32)
 stopped_needle = (refl, refl)
+
+-- a needle's value is what the library's `unwrap_or(0)` answers
+pub value_given : (v : Needle) → result_unwrap_or v (pos 0) ≡ needle_value v
+value_given (Ok z) = refl
+value_given (Err s) = refl

@@ -10,7 +10,7 @@ abbrev pub Channel : Type 0
 Channel = Result Accepted Refusal
 
 abbrev pub channel_at : Point → ℕ → ℕ → Remarks → Channel
-channel_at p d k m = Ok (record { at = p; density = d; bulk = k; remarks = m })
+channel_at p d k m = Ok (record { at = p; water = record { density = d; bulk = k }; remarks = m })
 
 abbrev pub Needle : Type 0
 Needle = Result ℤ Stop

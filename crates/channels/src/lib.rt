@@ -2,18 +2,17 @@
 #![tactic(auto)]
 
 ghost use Rattle.std.specs.Prelude.{◌≡◌};
-ghost use Rattle.channels.specs.Numbers.{channel_density, channel_bulk, stop_number, needle_number, needle_value};
+ghost use Rattle.channels.specs.Numbers.{channel_water, stop_number};
 
 use readings::{Point, Remarks};
-use refusals::Refusal;
+use refusals::{Reason, Refusal};
+use waters::Water;
 
-// A reading that is accepted: the grid numbers, the shown density in 0.001 kg/m3, the bulk modulus in 0.01 bar, and on which side of its grid point each
-// float lies.
+// A reading that is accepted: the grid numbers, the water there, and on which side of its grid point each float lies.
 #[derive(Clone, Copy)]
 pub struct Accepted {
     pub at: Point,
-    pub density: u32,
-    pub bulk: u32,
+    pub water: Water,
     pub remarks: Remarks,
 }
 
@@ -40,6 +39,14 @@ impl Stop {
     }
 }
 
+impl Reason for Stop {
+    ghost numbered = { stop_number };
+
+    fn number(self) -> u32 {
+        Stop::number(self)
+    }
+}
+
 // The needle: right minus left in 0.001 kg/m3; or why there is none.
 pub type Needle = Result<i64, Stop>;
 
@@ -51,31 +58,9 @@ pub struct Comparison {
     pub needle: Needle,
 }
 
-// SPEC's values for each case: a refused channel has noughts. (Its number is `refusals::number`.)
-pub fn density(channel: Channel) -> u32
-    ensures { result ≡ channel_density channel }
+// A channel's water, of which `waters` has SPEC's values: a refused channel has noughts. (Its number, and a needle's, is `refusals::number`.)
+pub fn water(channel: Channel) -> Result<Water, Refusal>
+    ensures { result ≡ channel_water channel }
 {
-    channel.map_or(0, |accepted| accepted.density)
-}
-
-pub fn bulk(channel: Channel) -> u32
-    ensures { result ≡ channel_bulk channel }
-{
-    channel.map_or(0, |accepted| accepted.bulk)
-}
-
-// SPEC's number and value of a needle.
-pub fn number(needle: Needle) -> u32
-    ensures { result ≡ needle_number needle }
-{
-    match needle {
-        Ok(_) => 0,
-        Err(stop) => stop.number(),
-    }
-}
-
-pub fn value(needle: Needle) -> i64
-    ensures { result ≡ needle_value needle }
-{
-    needle.unwrap_or(0)
+    channel.map(|accepted| accepted.water)
 }

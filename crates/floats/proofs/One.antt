@@ -4,7 +4,7 @@ use mathlib.Core.Path.{◌≡◌, sym, ◌∙◌}
 use contract.Lifetimes
 use Rattle.floats.proofs.Remark.number.Reads as number
 use Rattle.floats.proofs.grid.is_finite.Reads as is_finite
-use Rattle.floats.proofs.grid.place.Reads as place
+use Rattle.floats.proofs.grid.Range.place.Reads as place
 use Rattle.floats.proofs.recorder.Reads as recorder
 use Rattle.floats.proofs.float_of.Reads as float_of
 

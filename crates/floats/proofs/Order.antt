@@ -13,7 +13,8 @@ use lib.Ieee.Fits.{and_l, and_r, down_pos}
 use Rattle.whole.specs.Arith.{plus, minus}
 use Rattle.whole.proofs.Ints.{add_is, mul_plus, mul_minus, Floored, floored, to_≤ℤ, of_≤ℤ, same}
 use Rattle.floats.proofs.Floors.{across, under, floor_order}
-use Rattle.floats.specs.Grid.{finite, numer, denom, Range, inside, grid_no, AtMost, Same}
+use Rattle.floats.specs.declared.grid.Range.{Range}
+use Rattle.floats.specs.Grid.{finite, numer, denom, inside, grid_no, AtMost, Same}
 
 pub denom_pos : (x : Float) → 0 < denom x
 denom_pos nan = lit< tt

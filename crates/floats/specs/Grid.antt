@@ -6,6 +6,7 @@ use Rattle.std.specs.Float.Ieee.{up, down}
 use Rattle.whole.specs.Arith.{floor_div}
 use Rattle.floats.specs.declared.Remark.{Remark}
 use Rattle.floats.specs.declared.Remark.TheVariants.{Below, On, Above}
+use Rattle.floats.specs.declared.grid.Range.{Range}
 use Rattle.floats.specs.declared.Place.{Place}
 
 -- neither a NaN nor an infinity
@@ -38,11 +39,6 @@ abbrev pub Same : Float → Float → Type 0
 Same x y = AtMost x y × AtMost y x
 
 -- a row of SPEC's table: the ends as grid numbers, and the grid's steps to 1
-pub record Range : Type 0 where
-  pub low : ℤ
-  pub high : ℤ
-  pub steps : ℕ
-
 abbrev pub range : ℤ → ℤ → ℕ → Range
 range lo hi k = record { low = lo; high = hi; steps = k }
 

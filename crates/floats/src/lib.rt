@@ -1,5 +1,5 @@
 // What is said of one float, whatever it measures: its place on a grid, the float for the recorder, a float from its four
-// bytes. The inside of the engine: what `grid::place` asks for keeps its words from overflowing, and the calls above it see to it.
+// bytes. The inside of the engine: what `Range::place` asks for keeps its words from overflowing, and the calls above it see to it.
 #![tactic(auto)]
 
 ghost use Rattle.std.specs.Prelude.{◌≡◌, slice_index};
@@ -50,7 +50,7 @@ pub fn float_of(bytes: [u8; 4]) -> f32
 {
     let n = u32::from_le_bytes(bytes);
     if 0x7f80_0000 < n % 0x8000_0000 {
-        0.0 / 0.0
+        f32::NAN
     } else {
         f32::from_bits(n)
     }

@@ -1,13 +1,12 @@
--- Freezing points in numbers, and phases on either side of them: one list and one theorem each, by computation. What the formula and the code would have to
+-- Freezing points in numbers, and waters on either side of them: one list and one theorem each, by computation. What the formula and the code would have to
 -- get wrong together is held to literals here. The numbers were worked out by another program, from UNESCO's decimals. Assumes nothing.
 use Prim.Native.Nat.{ℕ}
 use mathlib.Core.Path.{◌≡◌, refl}
+use mathlib.Core.Bool.{Bool, true, false}
 use mathlib.Core.List.{List, [], ◌∷◌, map}
 use lib.IntN.{ℤ, pos}
 use Rattle.whole.specs.Arith.{neg, scaled, root_from, root_of, root_at}
-use Rattle.freezing.specs.declared.Phase.{Phase}
-use Rattle.freezing.specs.declared.Phase.TheVariants.{Liquid, Frozen}
-use Rattle.freezing.specs.Ice.{salt_ice, deep_ice, ice_at, phase_of}
+use Rattle.freezing.specs.Ice.{salt_ice, deep_ice, ice_at, frozen_of}
 
 -- σ, π, the freezing point in 10⁻⁹ °C
 pub record Point : Type 0 where
@@ -41,25 +40,25 @@ pub record Water : Type 0 where
   pub salt : ℕ
   pub warm : ℤ
   pub deep : ℕ
-  pub phase : Phase
+  pub frozen : Bool
 
-abbrev water : ℕ → ℤ → ℕ → Phase → Water
-water σ τ π p = record { salt = σ; warm = τ; deep = π; phase = p }
+abbrev water : ℕ → ℤ → ℕ → Bool → Water
+water σ τ π b = record { salt = σ; warm = τ; deep = π; frozen = b }
 
 unfoldable pub waters : List Water
 waters =
     -- freezing points that are whole thousandths: at the point a water is liquid, 0.001 °C below it frozen
-    water 0 (pos 0) 0 Liquid ∷ water 0 (neg 1) 0 Frozen ∷ water 19 (neg 48) 623 Liquid ∷ water 19 (neg 49) 623 Frozen
-    ∷ water 35_634 (neg 1_961) 30 Liquid ∷ water 35_634 (neg 1_962) 30 Frozen
+    water 0 (pos 0) 0 false ∷ water 0 (neg 1) 0 true ∷ water 19 (neg 48) 623 false ∷ water 19 (neg 49) 623 true
+    ∷ water 35_634 (neg 1_961) 30 false ∷ water 35_634 (neg 1_962) 30 true
     -- the same water less than 0.01 bar higher up, and a little fresher
-    ∷ water 35_634 (neg 1_961) 29 Frozen ∷ water 35_633 (neg 1_961) 30 Frozen
+    ∷ water 35_634 (neg 1_961) 29 true ∷ water 35_633 (neg 1_961) 30 true
     -- salinity 35 at the surface, and at 10 and 11 bar: -1.922, -1.997 and -2.005
-    ∷ water 35_000 (neg 1_922) 0 Liquid ∷ water 35_000 (neg 1_923) 0 Frozen ∷ water 35_000 (neg 1_997) 1_000 Liquid ∷ water 35_000 (neg 1_998) 1_000 Frozen
-    ∷ water 35_000 (neg 2_000) 1_100 Liquid
+    ∷ water 35_000 (neg 1_922) 0 false ∷ water 35_000 (neg 1_923) 0 true ∷ water 35_000 (neg 1_997) 1_000 false ∷ water 35_000 (neg 1_998) 1_000 true
+    ∷ water 35_000 (neg 2_000) 1_100 false
     -- the coldest readings: fresh, and of salinity 42
-    ∷ water 0 (neg 2_000) 0 Frozen ∷ water 42_000 (neg 2_000) 0 Liquid
+    ∷ water 0 (neg 2_000) 0 true ∷ water 42_000 (neg 2_000) 0 false
     ∷ []
 
-pub waters_hold : map (λ (x : Water). phase_of x.salt x.warm x.deep) waters ≡ map (λ (x : Water). x.phase) waters
-unfolding waters phase_of ice_at salt_ice deep_ice scaled root_from root_of root_at
+pub waters_hold : map (λ (x : Water). frozen_of x.salt x.warm x.deep) waters ≡ map (λ (x : Water). x.frozen) waters
+unfolding waters frozen_of ice_at salt_ice deep_ice scaled root_from root_of root_at
 waters_hold = refl

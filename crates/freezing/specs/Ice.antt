@@ -5,11 +5,10 @@
 --
 -- in whole numbers, on the common scale: v is salinity/100, q is bar/1,000, w stands for √v. Freezing points are in units of 10⁻⁹ °C; digits as printed.
 -- (How near they are to the formula: `near-published` of promises/proofs/Ice.)
-use Rattle.std.specs.Prelude.{ℕ, cond, ℤ, pos, ◌+ℤ◌, ◌*ℤ◌}
-use Rattle.std.specs.Int.Signed.{le_z}
+use Rattle.std.specs.Prelude.{ℕ, Bool, ℤ, pos, ◌+ℤ◌, ◌*ℤ◌}
+use Rattle.std.specs.Int.Signed.{lt_z}
 use Rattle.whole.specs.Arith.{scaled, root_at}
 use Rattle.whole.specs.Decimal.{◌/10^◌, -◌/10^◌}
-use Rattle.freezing.specs.declared.Phase.{Phase}
 
 -- scaled(v; -5.75 + scaled(w; 1.710523) + scaled(v; -2.154996)): what the salt makes
 unfoldable pub salt_ice : ℕ → ℕ → ℤ
@@ -28,5 +27,5 @@ abbrev pub warmth : ℤ → ℤ
 warmth τ = τ *ℤ pos 1_000_000
 
 -- a water colder than its freezing point is frozen; at the freezing point exactly it is liquid
-unfoldable pub phase_of : ℕ → ℤ → ℕ → Phase
-phase_of σ τ π = cond (le_z (ice_at σ π) (warmth τ)) Phase.Liquid Phase.Frozen
+unfoldable pub frozen_of : ℕ → ℤ → ℕ → Bool
+frozen_of σ τ π = lt_z (warmth τ) (ice_at σ π)

@@ -1,6 +1,6 @@
 -- What the answer of a page, or of a table, says: the number, and the count of bytes. Each is the definition, read at one outcome of its check. Assumes nothing.
 use Prim.Native.Nat.{ℕ}
-use mathlib.Core.Path.{◌≡◌, refl, ap}
+use mathlib.Core.Path.{◌≡◌, refl}
 use mathlib.Core.List.{List}
 use mathlib.Core.Bool.{Bool, true, false, cond}
 use lib.ListN.{length}
@@ -8,13 +8,7 @@ use lib.Dec.{ltb}
 use Rattle.std.specs.Prelude.{Result, Ok, Err}
 use Rattle.refusals.specs.declared.Refusal.{Refusal}
 use Rattle.refusals.specs.declared.Refusal.TheVariants.{Room}
-use Rattle.lines.specs.Line.{room_check}
 use Rattle.pages.specs.Page.{filled_number, filled_count, page_checked, filled_with}
-
--- the answer, from the check's outcome
-pub filled_is : (least len : ℕ) (text : List ℕ) (x : Bool) → x ≡ room_check least len → page_checked x (length text) ≡ filled_with least len text
-unfolding filled_with
-filled_is least len text x e = ap (λ (c : Bool). page_checked c (length text)) e
 
 -- 30 for too little room
 pub filled_number_lem : (least len : ℕ) (text : List ℕ) → filled_number (filled_with least len text) ≡ cond (ltb len least) 30 0

@@ -74,13 +74,13 @@ pub value_accepted : (l r : Channel) (s : Bool) (z : ℤ) → needle_of l r s �
 value_accepted (Ok a) (Ok b) s z e =
     record {
       left_at = a.at;
-      left_density = a.density;
-      left_bulk = a.bulk;
+      left_density = a.water.density;
+      left_bulk = a.water.bulk;
       left_remarks = a.remarks;
       left_is = refl;
       right_at = b.at;
-      right_density = b.density;
-      right_bulk = b.bulk;
+      right_density = b.water.density;
+      right_bulk = b.water.bulk;
       right_remarks = b.remarks;
       right_is = refl;
     }

@@ -73,7 +73,7 @@ common_is {a} {b} h g = greater (pressure_of a) (pressure_of b) (whole h) (whole
 beside_taken : (p : Point) (m : Remarks) {b : Checked} (t : OnTable p.sigma p.tau p.pi) → Placed b →
     beside_of (taken_at p m) b ≡
     Ok (record {
-      accepted = record { at = p; density = shown_under (plus p.pi) p; bulk = modulus_at (plus p.sigma) p.tau (plus p.pi); remarks = m };
+      accepted = record { at = p; water = record { density = shown_under (plus p.pi) p; bulk = modulus_at (plus p.sigma) p.tau (plus p.pi) }; remarks = m };
       under = shown_under (max (plus p.pi) (plus (pressure_of b))) p;
     })
 unfolding beside_of

@@ -43,11 +43,11 @@ same_stop e = cc
 stopped : (l r : Entry) (s : Stop) (a : Channel) → channel_of l ≡ a → (b : Channel) → channel_of r ≡ b → (f : Bool) → shared_of l r ≡ f → needle_of a b f ≡ Err s → Stops l r s (stop_number s)
 stopped l r s (Err x) e b g f h i = subst (λ (t : Stop). Stops l r t (stop_number t)) (same_stop i) (left_refused x e)
 stopped l r s (Ok x) e (Err y) g f h i =
-    subst (λ (t : Stop). Stops l r t (stop_number t)) (same_stop i) (right_refused y (record { point = x.at; density = x.density; bulk = x.bulk; remarks = x.remarks; is = e }) g)
+    subst (λ (t : Stop). Stops l r t (stop_number t)) (same_stop i) (right_refused y (record { point = x.at; density = x.water.density; bulk = x.water.bulk; remarks = x.remarks; is = e }) g)
 stopped l r s (Ok x) e (Ok y) g true h i =
     subst (λ (t : Stop). Stops l r t (stop_number t)) (same_stop i)
-    (one_probe (record { point = x.at; density = x.density; bulk = x.bulk; remarks = x.remarks; is = e })
-    (record { point = y.at; density = y.density; bulk = y.bulk; remarks = y.remarks; is = g }) (shared_means l r h))
+    (one_probe (record { point = x.at; density = x.water.density; bulk = x.water.bulk; remarks = x.remarks; is = e })
+    (record { point = y.at; density = y.water.density; bulk = y.water.bulk; remarks = y.remarks; is = g }) (shared_means l r h))
 stopped l r s (Ok x) e (Ok y) g false h i = cc
 
 pub only_stopped : (l r : Entry) → OnlyStopped l r (comparison_of l r)

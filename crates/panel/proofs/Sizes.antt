@@ -43,7 +43,7 @@ accepted_table e p d k m h = go e (subst (Case e) h (case_of e))
 
 -- a density of seven digits at most, or a refusal's number of one
 abbrev pub Small : Channel → Type 0
-Small (Ok a) = a.density < 10_000_000
+Small (Ok a) = a.water.density < 10_000_000
 Small (Err r) = number_of r < 10
 
 reason_small : {report : Report} {r : Refusal} → Reason Purpose.Density report r → number_of r < 10

@@ -22,7 +22,7 @@ common_of a b = cond (lt_z (pressure_of a) (pressure_of b)) (pressure_of b) (pre
 
 -- a side: what its channel shows, and its density under the common pressure
 abbrev pub side_of : Taken → Result Sounding Refusal → Result Side Refusal
-side_of t (Ok s) = Ok (record { accepted = record { at = t.at; density = s.density; bulk = s.bulk; remarks = t.remarks }; under = s.under })
+side_of t (Ok s) = Ok (record { accepted = record { at = t.at; water = s.water; remarks = t.remarks }; under = s.under })
 side_of t (Err r) = Err r
 
 unfoldable pub beside_of : Checked → Checked → Result Side Refusal

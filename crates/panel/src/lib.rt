@@ -63,8 +63,7 @@ pub fn beside(one: Checked, other: Checked) -> Result<Side, Refusal>
     let found = sea::sounding_at(at.sigma, at.tau, at.pi, common(one, other))?;
     let accepted = Accepted {
         at,
-        density: found.density,
-        bulk: found.bulk,
+        water: found.water,
         remarks: taken.remarks,
     };
     Ok(Side {
@@ -89,7 +88,7 @@ pub fn needle(left: Result<Side, Refusal>, right: Result<Side, Refusal>, shared:
     if shared {
         return Err(Stop::SameProbe);
     }
-    Ok(r.under as i64 - l.under as i64)
+    Ok(i64::from(r.under) - i64::from(l.under))
 }
 
 // The answer of one channel.
@@ -100,7 +99,8 @@ pub fn answer(entry: Entry) -> Channel
     channel(beside(c, c))
 }
 
-// Both channels, each from what stands in it alone, and their needle.
+// Both channels, each from what stands in it alone, and their needle. In line, since the code of a needle is slower where the comparison is handed over.
+#[inline(always)]
 pub fn paired(left: Entry, right: Entry) -> Comparison
     ensures { result ≡ comparison_of left right }
 {

@@ -10,7 +10,8 @@ use lib.IntN.{pos}
 use lib.Signed.{◌≤ℤ◌}
 use lib.Ieee.{Float}
 use Rattle.refusals.specs.declared.Refusal.{Refusal}
-use Rattle.floats.specs.Grid.{Range, inside, grid_no, remark_of, place_of}
+use Rattle.floats.specs.declared.grid.Range.{Range}
+use Rattle.floats.specs.Grid.{inside, grid_no, remark_of, place_of}
 use Rattle.floats.specs.declared.Place.{Place}
 use Rattle.floats.specs.declared.Remark.TheVariants.{On}
 use Rattle.floats.proofs.Order.{grid_within}

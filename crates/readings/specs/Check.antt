@@ -3,7 +3,8 @@ use Rattle.std.specs.Prelude.{Bool, true, false, ◌&&◌, ℤ, pos, Float, Opti
 use Rattle.std.specs.Float.{fin}
 use Rattle.whole.specs.Arith.{neg}
 use Rattle.refusals.specs.declared.Refusal.{Refusal}
-use Rattle.floats.specs.Grid.{Range, range, finite, place_of}
+use Rattle.floats.specs.Grid.{range, finite, place_of}
+use Rattle.floats.specs.declared.grid.Range.{Range}
 use Rattle.floats.specs.declared.Place.{Place}
 use Rattle.readings.specs.declared.Purpose.{Purpose}
 use Rattle.readings.specs.declared.Report.{Report}

@@ -6,7 +6,8 @@ ghost use Rattle.readings.specs.declared.Purpose.{Purpose};
 ghost use Rattle.readings.specs.declared.Report.{Report};
 ghost use Rattle.readings.specs.Check.{coldest, surface_of, given_of, finite_of, level_for, put_together, placed_for, in_order, checked_for, checked_of};
 
-use floats::{Place, Remark, grid};
+use floats::grid::{self, Range};
+use floats::{Place, Remark};
 use refusals::{Refusal, Unread};
 
 // A probe's report: salinity, temperature, pressure.
@@ -17,7 +18,7 @@ pub enum Report {
     Missing,
 }
 
-// What a probe sends: its number, 0 if it has none, and its report.
+// What a probe sends: its number and its report. (0 is no number: SPEC and the C interface give it so, and the theorems on numbers speak of it.)
 #[derive(Clone, Copy)]
 pub struct Message {
     pub probe: u16,
@@ -73,7 +74,7 @@ impl Purpose {
         ensures { result ≡ coldest self }
     {
         match self {
-            Purpose::Density => Reading::TEMPERATURE_LOW,
+            Purpose::Density => Reading::TEMPERATURE.low,
             Purpose::Carbon => 0,
         }
     }
@@ -107,24 +108,24 @@ struct Level {
 }
 
 impl Reading {
-    // The ends of each range as grid numbers, and the grid's steps to 1.
-    pub const SALINITY_LOW: i32 = 0;
+    // The table of ranges, with the density's low end of temperatures. (`Purpose::coldest` has each purpose's own.)
+    pub const SALINITY: Range = Range {
+        low: 0,
+        high: 42_000,
+        steps: 1000,
+    };
 
-    pub const SALINITY_HIGH: i32 = 42_000;
+    pub const TEMPERATURE: Range = Range {
+        low: -2_000,
+        high: 40_000,
+        steps: 1000,
+    };
 
-    pub const SALINITY_STEPS: u32 = 1000;
-
-    pub const TEMPERATURE_LOW: i32 = -2_000;
-
-    pub const TEMPERATURE_HIGH: i32 = 40_000;
-
-    pub const TEMPERATURE_STEPS: u32 = 1000;
-
-    pub const PRESSURE_LOW: i32 = 0;
-
-    pub const PRESSURE_HIGH: i32 = 100_000;
-
-    pub const PRESSURE_STEPS: u32 = 100;
+    pub const PRESSURE: Range = Range {
+        low: 0,
+        high: 100_000,
+        steps: 100,
+    };
 
     // At the surface the pressure is taken as 0.
     pub fn surface(salinity: f32, temperature: f32) -> Reading
@@ -146,25 +147,20 @@ impl Reading {
             && grid::is_finite(self.pressure)
     }
 
-    // Checks 3 and 4. In line at both of its places: out of line ln K0 took a quarter more instructions.
+    // Checks 3 and 4. (Each check, here and below, is taken apart by `let .. else`, as SPEC wants it where the first that applies is the answer.) In line at both of
+    // its places: out of line ln K0 took a quarter more instructions.
     #[inline(always)]
     fn level(self, purpose: Purpose) -> Result<Level, Refusal>
         ensures { result ≡ level_for purpose self }
     {
-        let Some(sigma) = grid::place(
-            self.salinity,
-            Reading::SALINITY_LOW,
-            Reading::SALINITY_HIGH,
-            Reading::SALINITY_STEPS,
-        ) else {
+        let Some(sigma) = Reading::SALINITY.place(self.salinity) else {
             return Err(Refusal::Salinity);
         };
-        let Some(tau) = grid::place(
-            self.temperature,
-            purpose.coldest(),
-            Reading::TEMPERATURE_HIGH,
-            Reading::TEMPERATURE_STEPS,
-        ) else {
+        let temperatures = Range {
+            low: purpose.coldest(),
+            ..Reading::TEMPERATURE
+        };
+        let Some(tau) = temperatures.place(self.temperature) else {
             return Err(Refusal::Temperature);
         };
         Ok(Level { sigma, tau })
@@ -175,12 +171,7 @@ impl Reading {
         ensures { result ≡ placed_for Purpose.Density self }
     {
         let Level { sigma, tau } = self.level(Purpose::Density)?;
-        let Some(pi) = grid::place(
-            self.pressure,
-            Reading::PRESSURE_LOW,
-            Reading::PRESSURE_HIGH,
-            Reading::PRESSURE_STEPS,
-        ) else {
+        let Some(pi) = Reading::PRESSURE.place(self.pressure) else {
             return Err(Refusal::Pressure);
         };
         Ok(Taken::put_together(sigma, tau, pi))

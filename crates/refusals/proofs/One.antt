@@ -14,8 +14,11 @@ one_number κs a r r' s s' e f = e ∙ sym f
 pub one_refusal : (κs : Lifetimes.Lfts 0) (a : _) (r r' : _) (s s' : _) → refusal.Learnt κs a r s → refusal.Learnt κs a r' s' → r ≡ r'
 one_refusal κs a r r' s s' e f = e ∙ sym f
 
-pub one_answer : (t : _) (l : _) (κs : Lifetimes.Lfts 2) (a : _) (r r' : _) (s s' : _) → answered.Learnt t l κs a r s → answered.Learnt t l κs a r' s' → r ≡ r'
-one_answer t l κs a r r' s s' e f = e ∙ sym f
+-- (of any value and any reason: `t` and `u` are their types, and what follows is what the bounds bring)
+pub one_answer :
+    (t u l m g d i j v : _) (κs : Lifetimes.Lfts 3) (a : _) (r r' : _) (s s' : _) →
+    answered.Learnt t u l m g d i j v κs a r s → answered.Learnt t u l m g d i j v κs a r' s' → r ≡ r'
+one_answer t u l m g d i j v κs a r r' s s' e f = e ∙ sym f
 
 -- ---- nothing is asked of the caller: `Asked` is what a contract requires
 pub free_number : (κs : Lifetimes.Lfts 0) (a : _) → number.Asked κs a
@@ -24,6 +27,6 @@ free_number κs a = tt
 pub free_refusal : (κs : Lifetimes.Lfts 0) (a : _) → refusal.Asked κs a
 free_refusal κs a = tt
 
--- (of a type that holds no loan; what else is asked is that its loans live)
-pub free_answer : (t : RattleType) (l : _) (κs : Lifetimes.Lfts 2) (a : _) → t.lives ≡ [] → answered.Asked t l κs a
-free_answer t l κs a e = λ n m. absurd (not-mem-nil (rw e at m))
+-- (of types that hold no loan; what else is asked is that their loans live)
+pub free_answer : (t u : RattleType) (l m g d i j v : _) (κs : Lifetimes.Lfts 3) (a : _) → t.lives ≡ [] → u.lives ≡ [] → answered.Asked t u l m g d i j v κs a
+free_answer t u l m g d i j v κs a e f = (λ n h. absurd (not-mem-nil (rw e at h)), λ n h. absurd (not-mem-nil (rw f at h)))

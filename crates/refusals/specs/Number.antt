@@ -32,7 +32,11 @@ refusal_of Unread.Cut = Cut
 refusal_of Unread.Kind = Kind
 refusal_of Unread.Length = Length
 
--- the number of an answer: that of its refusal, or 0 where there is none
+-- the number of an answer: that of why there is none, or 0
+abbrev pub number_by : {A E : Type 0} → (E → ℕ) → Result A E → ℕ
+number_by numbered (Ok a) = 0
+number_by numbered (Err e) = numbered e
+
+-- so of an answer that may be refused
 abbrev pub answer_number : {A : Type 0} → Result A Refusal → ℕ
-answer_number (Ok a) = 0
-answer_number (Err r) = number_of r
+answer_number = number_by number_of

@@ -1,8 +1,8 @@
 // Why something is refused.
 #![tactic(auto)]
 
-ghost use Rattle.std.specs.Prelude.{◌≡◌};
-ghost use Rattle.refusals.specs.Number.{number_of, refusal_of, answer_number};
+ghost use Rattle.std.specs.Prelude.{◌≡◌, ℕ};
+ghost use Rattle.refusals.specs.Number.{number_of, refusal_of, number_by};
 
 // One case for each number of SPEC's list.
 #[derive(Clone, Copy)]
@@ -28,6 +28,22 @@ impl Refusal {
     }
 }
 
+// Why there is no answer: a refusal, or what else has a number of SPEC's.
+pub trait Reason: Copy {
+    ghost numbered: { Self → ℕ };
+
+    fn number(self) -> u32
+        ensures { result ≡ numbered self };
+}
+
+impl Reason for Refusal {
+    ghost numbered = { number_of };
+
+    fn number(self) -> u32 {
+        Refusal::number(self)
+    }
+}
+
 // Why a record gave no reading: the three refusals that stand in a channel before any reading does.
 #[derive(Clone, Copy)]
 pub enum Unread {
@@ -48,9 +64,9 @@ impl From<Unread> for Refusal {
     }
 }
 
-// The number of an answer: that of its refusal, or 0 where there is none.
-pub fn number<T>(answer: &Result<T, Refusal>) -> u32
-    ensures { result ≡ answer_number answer.now }
+// The number of an answer: that of why there is none, or 0.
+pub fn number<T, E: Reason>(answer: &Result<T, E>) -> u32
+    ensures { result ≡ number_by E.numbered answer.now }
 {
     match answer {
         Ok(_) => 0,

@@ -12,7 +12,8 @@ use lib.Ieee.{Float}
 use Rattle.refusals.specs.declared.Refusal.{Refusal}
 use Rattle.refusals.specs.Number.{number_of}
 use Rattle.floats.specs.declared.Place.{Place}
-use Rattle.floats.specs.Grid.{Range, inside, grid_no, remark_number, remark_of, place_of}
+use Rattle.floats.specs.declared.grid.Range.{Range}
+use Rattle.floats.specs.Grid.{inside, grid_no, remark_number, remark_of, place_of}
 use Rattle.readings.specs.declared.Purpose.{Purpose}
 use Rattle.readings.specs.declared.Report.{Report}
 use Rattle.readings.specs.declared.Reading.{Reading}

@@ -6,7 +6,8 @@ use Rattle.whole.specs.Arith.{plus}
 use Rattle.refusals.specs.declared.Refusal.{Refusal}
 use Rattle.refusals.specs.Number.{number_of, refusal_of}
 use Rattle.floats.specs.declared.Place.{Place}
-use Rattle.floats.specs.Grid.{Range, inside, grid_no}
+use Rattle.floats.specs.declared.grid.Range.{Range}
+use Rattle.floats.specs.Grid.{inside, grid_no}
 use Rattle.readings.specs.declared.Purpose.{Purpose}
 use Rattle.readings.specs.declared.Report.{Report}
 use Rattle.readings.specs.declared.Reading.{Reading}
@@ -70,7 +71,7 @@ abbrev pub BareChannel : Type 0
 BareChannel = Result Shown Refusal
 
 abbrev pub bare_channel : Channel → BareChannel
-bare_channel (Ok a) = Ok (record { at = a.at; density = a.density; bulk = a.bulk })
+bare_channel (Ok a) = Ok (record { at = a.at; density = a.water.density; bulk = a.water.bulk })
 bare_channel (Err r) = Err r
 
 abbrev pub filled_without : Point → Result Water Refusal → BareChannel

@@ -14,7 +14,8 @@ pub struct Search {
     pub line: Trial,
 }
 
-// The root of the grid number sigma (salinity in 0.001) as a reading uses it, and the line of its search after so many trials.
+// The root of the grid number sigma (salinity in 0.001) as a reading uses it, and the line of its search after so many trials. (The check is taken apart by
+// `let .. else`, as SPEC wants it.)
 pub fn search_at(sigma: i64, trials: u32) -> Result<Search, Refusal>
     ensures { result ≡ search_of sigma trials }
 {

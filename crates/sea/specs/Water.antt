@@ -28,7 +28,7 @@ water_of σ τ π =
 
 -- the same, and the shown density of the same water under another pressure, which is refused by 5 as its own is
 abbrev pub sounding : ℕ → ℕ → ℕ → Sounding
-sounding d k u = record { density = d; bulk = k; under = u }
+sounding d k u = record { water = record { density = d; bulk = k }; under = u }
 
 abbrev pub sounded : Result Water Refusal → Result Water Refusal → Result Sounding Refusal
 sounded (Ok w) (Ok v) = Ok (sounding w.density w.bulk v.density)

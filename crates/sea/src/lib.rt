@@ -42,8 +42,7 @@ pub struct Parcel {
 // A water at its own pressure, with its density under another one.
 #[derive(Clone, Copy)]
 pub struct Sounding {
-    pub density: u32,
-    pub bulk: u32,
+    pub water: Water,
     pub under: u32,
 }
 
@@ -198,19 +197,17 @@ fn pressed(x: Parcel, pi: Pressure) -> Water
 fn sounded(sigma: Salinity, tau: Temperature, pi: Pressure, deep: Pressure) -> Sounding
     ensures { result ≡ sounding (the.shown_at (plus sigma.number) tau.number (plus pi.number)) (the.modulus_at (plus sigma.number) tau.number (plus pi.number)) (the.shown_at (plus sigma.number) tau.number (plus deep.number)) }
 {
-    let water = parcel_at(sigma, tau);
-    let Water { density, bulk } = pressed(water, pi);
+    let parcel = parcel_at(sigma, tau);
+    let water = pressed(parcel, pi);
     if deep.number == pi.number {
         return Sounding {
-            density,
-            bulk,
-            under: density,
+            water,
+            under: water.density,
         };
     }
-    let other = pressed(water, deep);
+    let other = pressed(parcel, deep);
     Sounding {
-        density,
-        bulk,
+        water,
         under: other.density,
     }
 }
@@ -219,11 +216,12 @@ fn sounded(sigma: Salinity, tau: Temperature, pi: Pressure, deep: Pressure) -> S
 pub fn within(z: i64, low: i64, high: i64) -> bool
     ensures { result ≡ range_of low high z }
 {
-    low <= z && z <= high
+    (low..=high).contains(&z)
 }
 
 // Density and bulk modulus at the grid numbers sigma (0.001), tau (0.001 degrees) and pi (0.01 bar), and the density of the same water under the
-// pressure `deep`. (Plain numbers, as the C interface gives them.)
+// pressure `deep`. (Plain numbers, as the C interface gives them. Each check is taken apart by `let .. else`, as SPEC wants it where the first that applies is
+// the answer.)
 pub fn sounding_at(sigma: i64, tau: i64, pi: i64, deep: i64) -> Result<Sounding, Refusal>
     ensures { result ≡ sounding_of sigma tau pi deep }
 {
@@ -246,10 +244,5 @@ pub fn sounding_at(sigma: i64, tau: i64, pi: i64, deep: i64) -> Result<Sounding,
 pub fn water_at(sigma: i64, tau: i64, pi: i64) -> Result<Water, Refusal>
     ensures { result ≡ water_of sigma tau pi }
 {
-    let Sounding {
-        density,
-        bulk,
-        under: _,
-    } = sounding_at(sigma, tau, pi, pi)?;
-    Ok(Water { density, bulk })
+    sounding_at(sigma, tau, pi, pi).map(|found| found.water)
 }

@@ -25,7 +25,8 @@ pub(crate) type Pressure = Within<0, 100000>;
 pub(crate) type Root = Within<0, 64807>;
 
 impl<const BELOW: u32, const ABOVE: u32> Within<BELOW, ABOVE> {
-    // The number, if it is in the range.
+    // The number, if it is in the range. (By `then` it would be made in a closure, which knows nothing of the test; and the checker does not cover one whose result
+    // has the type's constants.)
     pub(crate) fn of(number: i64) -> Option<Self>
         ensures known { is_some result ≡ range_of (neg BELOW) (pos ABOVE) number }
         ensures same { IfSome result (λ z. z.number ≡ number) }

@@ -1,4 +1,3 @@
-mod Words
 pub mod One
 pub mod Told
 pub mod Probes

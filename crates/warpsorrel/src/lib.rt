@@ -10,7 +10,6 @@ ghost use Rattle.roots.specs.Search.{search_of, search_number, search_words};
 ghost use Rattle.carbon.specs.Carbon.{solubility_of, solubility_number, solubility_value};
 ghost use Rattle.channels.specs.Numbers.{channel_number, needle_number};
 ghost use Rattle.panel.specs.Panel.{channel_of, comparison_of};
-ghost use Rattle.panel.specs.Pairing.{needle_between, compared_from};
 ghost use Rattle.pairs.specs.Pairs.{pairs};
 ghost use Rattle.streams.specs.Nth.{nth_of};
 ghost use Rattle.cells.specs.Cells.{written};
@@ -19,8 +18,7 @@ ghost use Rattle.lines.specs.Line.{wrote_of, wrote_number, wrote_count};
 ghost use Rattle.pages.specs.Page.{page_of, filled_of, filled_number, filled_count};
 ghost use Rattle.abi.specs.Abi.{version, entry_of, channel_words, comparison_words, found_number, found_words};
 
-use channels::{Accepted, Channel};
-use panel::Side;
+use channels::{Accepted, Channel, Comparison};
 use refusals::Refusal;
 use roots::Search;
 
@@ -108,46 +106,32 @@ pub extern "C" fn warpsorrel_channel(
 fn channel_row(channel: Channel) -> [i64; 8]
     ensures { result ≡ channel_words channel }
 {
-    let Ok(
-        Accepted {
-            at,
-            density,
-            bulk,
-            remarks,
-        },
-    ) = channel
-    else {
+    let Ok(Accepted { at, water, remarks }) = channel else {
         return [0; 8];
     };
     [
         at.sigma,
         at.tau,
         at.pi,
-        density as i64,
-        bulk as i64,
-        remarks.salinity.number() as i64,
-        remarks.temperature.number() as i64,
-        remarks.pressure.number() as i64,
+        i64::from(water.density),
+        i64::from(water.bulk),
+        i64::from(remarks.salinity.number()),
+        i64::from(remarks.temperature.number()),
+        i64::from(remarks.pressure.number()),
     ]
 }
 
-// The words of two sides and their needle.
-fn put_needle(
-    left: Result<Side, Refusal>,
-    right: Result<Side, Refusal>,
-    shared: bool,
-    out: &mut [i64; 3],
-) -> u32
-    ensures answer { result ≡ needle_number (needle_between left right shared) }
-    ensures numbers { out.new ≡ sets out.old 0 (comparison_words (compared_from left right shared)) }
+// The words of a comparison.
+fn put_needle(pair: Comparison, out: &mut [i64; 3]) -> u32
+    ensures answer { result ≡ needle_number pair.needle }
+    ensures numbers { out.new ≡ sets out.old 0 (comparison_words pair) }
 {
-    let needle = panel::needle(left, right, shared);
     *out = [
-        channels::density(panel::channel(left)) as i64,
-        channels::density(panel::channel(right)) as i64,
-        channels::value(needle),
+        i64::from(waters::density(channels::water(pair.left))),
+        i64::from(waters::density(channels::water(pair.right))),
+        pair.needle.unwrap_or(0),
     ];
-    channels::number(needle)
+    refusals::number(&pair.needle)
 }
 
 // The needle of two reports: 0 or its refusal, 32 if both are accepted and have the same number other than 0; out gets the left density, the right density (0
@@ -183,12 +167,7 @@ pub extern "C" fn warpsorrel_needle(
         right_temperature,
         right_pressure,
     );
-    let shared = panel::shares(left, right);
-    let l = panel::entered(left);
-    let r = panel::entered(right);
-    let a = panel::beside(l, r);
-    let b = panel::beside(r, l);
-    put_needle(a, b, shared, out)
+    put_needle(panel::paired(left, right), out)
 }
 
 // How much carbon dioxide a report's water will hold: 0 or its refusal; out gets ln K0 in millionths, 0 if refused. The pressure is not read, and no number is
@@ -205,7 +184,7 @@ pub extern "C" fn warpsorrel_co2(
     ensures value { out.new ≡ solubility_value (solubility_of (entry_of kind 0 salinity temperature pressure)) }
 {
     let answer = carbon::answer(abi::entry_of(kind, 0, salinity, temperature, pressure));
-    *out = carbon::value(answer);
+    *out = answer.unwrap_or(0);
     refusals::number(&answer)
 }
 
@@ -236,7 +215,7 @@ pub extern "C" fn warpsorrel_pair(stream: &[u8], before: usize, out: &mut [i64; 
 {
     let found = streams::nth(stream, before);
     abi::put_pair(found, out);
-    found.is_some() as u32
+    u32::from(found.is_some())
 }
 
 // ---- text
@@ -278,7 +257,7 @@ pub extern "C" fn warpsorrel_line(
         right_pressure,
     );
     let wrote = lines::write_line(number, left, right, out);
-    *count = lines::count(wrote);
+    *count = wrote.unwrap_or(0);
     refusals::number(&wrote)
 }
 
@@ -291,6 +270,6 @@ pub extern "C" fn warpsorrel_page(stream: &[u8], out: &mut [u8], count: &mut usi
     ensures bytes { out.new ≡ written count.new (page_of stream.now) out.old }
 {
     let filled = pages::write_page(stream, out);
-    *count = lines::count(filled);
+    *count = filled.unwrap_or(0);
     refusals::number(&filled)
 }

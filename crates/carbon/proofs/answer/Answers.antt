@@ -9,8 +9,8 @@ use mir.ValLaws.{to_z-of_z}
 use Rattle.std.specs.Prelude.{Ok, Err}
 use Rattle.whole.specs.Arith.{plus}
 use Rattle.whole.proofs.Words.{word, given}
+use Rattle.refusals.proofs.Handed.{handed_on}
 use Rattle.refusals.specs.declared.Refusal.{Refusal}
-use Rattle.refusals.specs.Number.{refusal_of}
 use Rattle.readings.specs.declared.Report.{Report}
 use Rattle.readings.specs.declared.Message.{Message}
 use Rattle.readings.specs.declared.Purpose.{Purpose}
@@ -24,8 +24,7 @@ use Rattle.carbon.proofs.answer.Goals as goal
 pub returns-in_err-message : goal.returns-in_err-message
 unfolding solubility_of
 returns-in_err-message c =
-    let same : c.from_residual.result ≡ Err (refusal_of c.in_err-message.field-0.0) = search rules in
-    same ∙ sym (ap solubility_of c.in_err-message.was)
+    handed_on c.from_residual.ensures ∙ sym (ap solubility_of c.in_err-message.was)
 
 -- without its pressure a report is one at the surface or missing, so that what is not at the surface is missing
 missing : (m : Message) → ((s t : Float) → unpressed m.report ≡ Report.Surface s t → ⊥) → Err Refusal.Missing ≡ solubility_of (Ok m)
@@ -51,8 +50,7 @@ answer_is c = ap dissolved (checked_is c) ∙ sym (ap solubility_of c.in_ok-mess
 
 pub returns-in_err-taken : goal.returns-in_err-taken
 returns-in_err-taken c =
-    let same : c.from_residual-in_err-taken.result ≡ Err c.in_err-taken.field-0.0 = search rules in
-    same ∙ sym (ap dissolved c.in_err-taken.was) ∙ answer_is (goal.at.returns-in_err-taken c).After-check_surface
+    handed_on c.from_residual-in_err-taken.ensures ∙ sym (ap dissolved c.in_err-taken.was) ∙ answer_is (goal.at.returns-in_err-taken c).After-check_surface
 
 -- the grid numbers, as they are handed on
 sigma_is : (c : In_ok-taken) → word c.in_ok-taken.taken.at.sigma ≡ c.in_ok-taken.taken.at.sigma

@@ -3,8 +3,9 @@ use borrow.Author.Rules.{rules}
 use mathlib.Core.Path.{◌≡◌, refl, sym, ap, ◌∙◌}
 use mir.Syntax.{w64}
 use mir.ValLaws.{to_z-of_z}
-use Rattle.std.specs.Prelude.{Result, Ok, Err}
+use Rattle.std.specs.Prelude.{Result, Ok}
 use Rattle.refusals.specs.declared.Refusal.{Refusal}
+use Rattle.refusals.proofs.Handed.{handed_on}
 use Rattle.sea.specs.declared.Sounding.{Sounding}
 use Rattle.readings.specs.declared.Taken.{Taken}
 use Rattle.whole.proofs.Words.{given}
@@ -27,13 +28,11 @@ by_taken other e f = rw (f, e) refl
 pub returns-in_err-taken : goal.returns-in_err-taken
 unfolding beside_of
 returns-in_err-taken c =
-    let same : c.from_residual.result ≡ Err c.in_err-taken.field-0.0 = search rules in
-    same ∙ sym (ap (λ (x : Checked). beside_of x c.args.other) c.in_err-taken.was)
+    handed_on c.from_residual.ensures ∙ sym (ap (λ (x : Checked). beside_of x c.args.other) c.in_err-taken.was)
 
 pub returns-in_err-found : goal.returns-in_err-found
 returns-in_err-found c =
-    let same : c.from_residual-in_err-found.result ≡ Err c.in_err-found.field-0.0 = search rules in
-    same ∙ ap (side_of c.in_ok-taken.taken) (sym c.in_err-found.was) ∙ by_taken c.args.other c.in_ok-taken.was (sounding_is (goal.at.returns-in_err-found c).After-sounding_at)
+    handed_on c.from_residual-in_err-found.ensures ∙ ap (side_of c.in_ok-taken.taken) (sym c.in_err-found.was) ∙ by_taken c.args.other c.in_ok-taken.was (sounding_is (goal.at.returns-in_err-found c).After-sounding_at)
 
 pub returns : goal.returns
 returns c = ap (side_of c.in_ok-taken.taken) (sym c.in_ok-found.was) ∙ by_taken c.args.other c.in_ok-taken.was (sounding_is (goal.at.returns c).After-sounding_at)

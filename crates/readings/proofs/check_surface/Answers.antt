@@ -1,7 +1,7 @@
 -- `check_surface` meets its contract: checks 2, 3 and 4 of the surface reading, and a pressure of 0 has its place. Assumes nothing.
-use borrow.Author.Rules.{rules}
 use mathlib.Core.Path.{◌≡◌, sym, ap, ◌∙◌}
-use Rattle.std.specs.Prelude.{Some, Ok, Err}
+use Rattle.std.specs.Prelude.{Some, Ok}
+use Rattle.refusals.proofs.Handed.{handed_on}
 use Rattle.floats.specs.Grid.{place_of}
 use Rattle.readings.specs.declared.Report.{Report}
 use Rattle.readings.specs.declared.Reading.{Reading}
@@ -23,8 +23,7 @@ returns-in_default c =
 
 pub returns-in_err-sigma : goal.returns-in_err-sigma
 returns-in_err-sigma c =
-    let same : c.from_residual.result ≡ Err c.in_err-sigma.field-0.0 = search rules in
-    same ∙ sym (level_stops c.args.purpose c.surface-reading.result (sym c.level.ensures ∙ c.in_err-sigma.was)) ∙ passed (goal.at.returns-in_err-sigma c).In-true
+    handed_on c.from_residual.ensures ∙ sym (level_stops c.args.purpose c.surface-reading.result (sym c.level.ensures ∙ c.in_err-sigma.was)) ∙ passed (goal.at.returns-in_err-sigma c).In-true
 
 pub returns : goal.returns
 returns c =

@@ -10,7 +10,6 @@ use Rattle.warpsorrel.proofs.warpsorrel_channel.Goals as goal
 
 pub returns-clause-numbers : goal.returns-clause-numbers
 returns-clause-numbers c =
-    let long : length c.args.out.now ≡ 8 = search rules in
     let row : length c.channel_row.result ≡ 8 = search rules in
     let e = c.channel_row.ensures ∙ ap channel_words (c.answer-channel.ensures ∙ ap channel_of c.entry_of.ensures) in
-    whole_row c.args.out.now c.channel_row.result (long ∙ sym row) ∙ ap (sets c.args.out.now 0) e
+    whole_row c.args.out.now c.channel_row.result (c.told-out ∙ sym row) ∙ ap (sets c.args.out.now 0) e

@@ -11,7 +11,6 @@ use Rattle.warpsorrel.proofs.warpsorrel_root.Goals as goal
 
 pub returns-clause-numbers : goal.returns-clause-numbers
 returns-clause-numbers c =
-    let long : length c.args.out.now ≡ 4 = search rules in
     let row : length c.root_row.result ≡ 4 = search rules in
     let e = c.root_row.ensures ∙ ap search_words (c.search_at-found.ensures ∙ rw (to_z-of_z w64 c.args.sigma c.ranges.sigma)) in
-    whole_row c.args.out.now c.root_row.result (long ∙ sym row) ∙ ap (sets c.args.out.now 0) e
+    whole_row c.args.out.now c.root_row.result (c.told-out ∙ sym row) ∙ ap (sets c.args.out.now 0) e

@@ -2,7 +2,6 @@
 use mathlib.Core.Path.{◌≡◌, refl, ap, ◌∙◌}
 use Prim.Native.Nat.{ℕ, ◌≤◌, ◌<◌, ◌-◌}
 use native.Mathlib.Omega.{arith}
-use borrow.Author.Rules.{rules}
 use lib.IntN.{ℤ, pos, nat_abs, ◌+ℤ◌}
 use lib.ListN.{length, get_or, drop, drop_of_length-le}
 use mathlib.Core.List.{reverse, ◌∷◌, [], ◌++◌}
@@ -18,13 +17,14 @@ use Rattle.whole.proofs.Row.{row_step}
 use Rattle.whole.proofs.row_value.Goals.{In-Some, After-scaled}
 use Rattle.whole.proofs.row_value.Goals as goal
 
+-- the type of the row says that it has six numbers
 six : (c : In-Some) → length c.args.row ≡ 6
-six c = search rules
+six c = c.well_formed.0.1.0.1
 
 pub loop-c-init : goal.loop-c-init
 unfolding row_value
 loop-c-init c =
-    let e : length c.args.row ≡ 6 = search rules in
+    let e : length c.args.row ≡ 6 = c.well_formed.0.1.0.1 in
     rw (drop_of_length-le c.args.row {i = 6} (omega (arith, e))) refl
 
 -- a turn's coefficient is the next lower one

@@ -7,7 +7,8 @@ use native.Mathlib.Omega.{arith}
 use lib.IntN.{pos, neg_ℤ, ◌-ℤ◌, +ℤ_idl}
 use lib.Dec.{eqb}
 use mir.Syntax.{w64}
-use mir.ValLaws.{to_z_pos, to_z-of_z}
+use mir.ValLaws.{to_z-of_z}
+use Rattle.whole.proofs.Words.{given}
 use Rattle.floats.specs.Pattern.{digits_of}
 use Rattle.floats.proofs.Floors.{neg_fits}
 use Rattle.floats.proofs.grid.digits.Goals.{Joined-e-eq0, then-e-eq0, else-e-eq0}
@@ -21,11 +22,19 @@ few j = elim j.if-e-eq0.branch [ then-e-eq0 w ↦ omega arith | else-e-eq0 w ↦
 
 pub returns-then-n-lt2147483648 : goal.returns-then-n-lt2147483648
 unfolding digits_of
-returns-then-n-lt2147483648 c = rw (lt-leb 0x8000_0000 c.args.n c.if-n-lt2147483648.true) (to_z_pos w64 _ (few c.before.before) ∙ ap pos (m_is c.before.before))
+returns-then-n-lt2147483648 c =
+    let j = (goal.at.returns-then-n-lt2147483648 c).Joined-e-eq0 in
+    rw (lt-leb 0x8000_0000 c.args.n c.if-n-lt2147483648.true) (given c.from.type_inv (c.from.ensures ∙ ap pos (m_is j)))
 
 pub returns-else-n-lt2147483648 : goal.returns-else-n-lt2147483648
 unfolding digits_of
 returns-else-n-lt2147483648 c =
+    let j = (goal.at.returns-else-n-lt2147483648 c).Joined-e-eq0 in
     let m = c.if-e-eq0.m in
-    let f = few c.before.before in
-    rw (le-leb 0x8000_0000 c.args.n c.if-n-lt2147483648.false, to_z_pos w64 _ f, to_z-of_z w64 (pos 0 -ℤ pos m) (neg_fits (pos m) f), +ℤ_idl (neg_ℤ (pos m)), m_is c.before.before)
+    rw (
+      le-leb 0x8000_0000 c.args.n c.if-n-lt2147483648.false,
+      given c.from-else-n-lt2147483648.type_inv c.from-else-n-lt2147483648.ensures,
+      to_z-of_z w64 (pos 0 -ℤ pos m) (neg_fits (pos m) (few j)),
+      +ℤ_idl (neg_ℤ (pos m)),
+      m_is j,
+    )

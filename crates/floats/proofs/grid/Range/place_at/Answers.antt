@@ -1,5 +1,5 @@
--- `place_at` meets its contract: a shift is a quotient rounded down, so its tests, its number and its remark are those of proofs/Floors. Assumes nothing.
-use mathlib.Core.Path.{◌≡◌, ap}
+-- `Range::place_at` meets its contract: a shift is a quotient rounded down, so its tests, its number and its remark are those of proofs/Floors. Assumes nothing.
+use mathlib.Core.Path.{◌≡◌, ap, ◌∙◌}
 use mathlib.Core.Bool.{Bool, true, false, not}
 use Prim.Native.Nat.{ℕ, ◌<◌, ◌≤◌, ◌^◌}
 use native.Mathlib.Nat.{div-le_self}
@@ -22,16 +22,22 @@ use Rattle.std.specs.Prelude.{Option, Some}
 use Rattle.floats.specs.declared.Remark.{Remark}
 use Rattle.floats.specs.declared.Place.{Place}
 use Rattle.floats.proofs.Floors.{by_floors, by_floors_lem, neg_fits}
-use Rattle.floats.proofs.grid.place_at.Goals.{Start, then-floor-lo-via-then-floor-lo, then-floor-lo-via-else-floor-lo+then-minus_ceiling-hi}
-use Rattle.floats.proofs.grid.place_at.Goals as goal
+use Rattle.floats.proofs.grid.Range.place_at.Goals.{Start, then-floor-from-via-then-floor-from, then-floor-from-via-else-floor-from+then-minus_ceiling-from}
+use Rattle.floats.proofs.grid.Range.place_at.Goals as goal
 
 -- a shifted word
 shifted : (z : ℤ) (m : ℕ) → SFits w64 z → word (shr_z (word z) m) ≡ floor_div z m
 shifted z m f = rw (to_z-of_z w64 z f) (to_z-of_z w64 (shr_z z m) (sfits_le (mag_shr z m) f))
 
--- an end, widened
-wide : (z : ℤ) → SFits w32 z → word (to_z w32 (of_z w32 z)) ≡ z
-wide z f = rw (to_z-of_z w32 z f) (to_z-of_z w64 z (sfits_widen tt f))
+-- an end fits its field, and is what it was once it is widened
+low_fits : (s : Start) → SFits w32 s.args.self.low
+low_fits s = record { sfits = s.well_formed.0.1.1.0.1 }
+
+high_fits : (s : Start) → SFits w32 s.args.self.high
+high_fits s = record { sfits = s.well_formed.0.1.1.1.0.1 }
+
+wide : {r : ℤ} (z : ℤ) → SFits w32 z → r ≡ to_z w32 (of_z w32 z) → word r ≡ z
+wide z f e = ap word (e ∙ to_z-of_z w32 z f) ∙ to_z-of_z w64 z (sfits_widen tt f)
 
 -- twice w, and its quotient with one more
 double_fits : (z : ℤ) → nat_abs z < 2 ^ 44 → SFits w64 (pos 2 *ℤ z)
@@ -57,8 +63,8 @@ power s = 2 ^ s.args.s
 negated_fits : (s : Start) → SFits w64 (pos 0 -ℤ s.args.w)
 negated_fits s = neg_fits s.args.w (omega arith)
 
-end_fits : (s : Start) → SFits w64 (pos 0 -ℤ s.args.hi)
-end_fits s = neg_fits s.args.hi (omega (arith, nat_abs-le s.args.hi s.ranges.hi.sfits))
+end_fits : (s : Start) → SFits w64 (pos 0 -ℤ s.args.self.high)
+end_fits s = neg_fits s.args.self.high (omega (arith, nat_abs-le s.args.self.high (high_fits s).sfits))
 
 -- the double's quotient in the code is that of the double
 quotient : (s : Start) → word (shr_z (word (pos 2 *ℤ word s.args.w)) (power s)) ≡ floor_div (pos 2 *ℤ s.args.w) (power s)
@@ -66,7 +72,7 @@ quotient s =
     rw (to_z-of_z w64 s.args.w s.ranges.w) (shifted (pos 2 *ℤ s.args.w) (power s) (double_fits s.args.w s.requires.w_small))
 
 pub overflow_add-number : goal.overflow_add-number
-overflow_add-number c = let s = c.before.before in rw (quotient s) (next_fits s.args.w (power s) _ (lit≤ tt) s.requires.w_small)
+overflow_add-number c = let s = (goal.at.overflow_add-number c).Start in rw (quotient s) (next_fits s.args.w (power s) _ (lit≤ tt) s.requires.w_small)
 
 -- so is the number
 abbrev number : Start → ℤ
@@ -81,7 +87,7 @@ number_few s =
     omega (arith, quotient_size z 2, next_few s.args.w (power s) 1 (lit≤ tt) s.requires.w_small)
 
 pub overflow_sub-number : goal.overflow_sub-number
-overflow_sub-number c = let s = c.before.before.before in rw (number_is s) (neg_fits (number s) (number_few s))
+overflow_sub-number c = let s = (goal.at.overflow_sub-number c).Start in rw (number_is s) (neg_fits (number s) (number_few s))
 
 -- the tests in the code are those on the quotients, turned
 less : (a b : ℕ) (t : Bool) → ltb a b ≡ t → leb b a ≡ not t
@@ -94,16 +100,16 @@ turned (pos a) (negsuc b) t h = ap not h
 turned (negsuc a) (pos b) t h = ap not h
 turned (negsuc a) (negsuc b) t h = less b a t h
 
-low : (s : Start) (t : Bool) → lt_z (word (shr_z (word s.args.w) (power s))) (word (to_z w32 (of_z w32 s.args.lo))) ≡ t
-    → le_z s.args.lo (floor_div s.args.w (power s)) ≡ not t
-low s t h = turned (floor_div s.args.w (power s)) s.args.lo t (rw (wide s.args.lo s.ranges.lo, shifted s.args.w (power s) s.ranges.w) at h)
+low : (s : Start) (r : ℤ) (t : Bool) → r ≡ to_z w32 (of_z w32 s.args.self.low) → lt_z (word (shr_z (word s.args.w) (power s))) (word r) ≡ t
+    → le_z s.args.self.low (floor_div s.args.w (power s)) ≡ not t
+low s r t e h = turned (floor_div s.args.w (power s)) s.args.self.low t (rw (wide s.args.self.low (low_fits s) e, shifted s.args.w (power s) s.ranges.w) at h)
 
-high : (s : Start) (t : Bool)
-    → lt_z (word (shr_z (word (pos 0 -ℤ word s.args.w)) (power s))) (word (pos 0 -ℤ word (to_z w32 (of_z w32 s.args.hi)))) ≡ t
-    → le_z (pos 0 -ℤ s.args.hi) (floor_div (pos 0 -ℤ s.args.w) (power s)) ≡ not t
-high s t h =
-    turned (floor_div (pos 0 -ℤ s.args.w) (power s)) (pos 0 -ℤ s.args.hi) t
-    (rw (wide s.args.hi s.ranges.hi, to_z-of_z w64 _ (end_fits s), to_z-of_z w64 s.args.w s.ranges.w, shifted _ (power s) (negated_fits s)) at h)
+high : (s : Start) (r : ℤ) (t : Bool) → r ≡ to_z w32 (of_z w32 s.args.self.high)
+    → lt_z (word (shr_z (word (pos 0 -ℤ word s.args.w)) (power s))) (word (pos 0 -ℤ word r)) ≡ t
+    → le_z (pos 0 -ℤ s.args.self.high) (floor_div (pos 0 -ℤ s.args.w) (power s)) ≡ not t
+high s r t e h =
+    turned (floor_div (pos 0 -ℤ s.args.w) (power s)) (pos 0 -ℤ s.args.self.high) t
+    (rw (wide s.args.self.high (high_fits s) e, to_z-of_z w64 _ (end_fits s), to_z-of_z w64 s.args.w s.ranges.w, shifted _ (power s) (negated_fits s)) at h)
 
 reached : (s : Start) (z : ℤ) (t : Bool) → z ≡ number s → lt_z (word (shr_z (word s.args.w) (power s))) z ≡ t
     → le_z (number s) (floor_div s.args.w (power s)) ≡ not t
@@ -116,35 +122,56 @@ passed s z t e h =
     turned (floor_div (pos 0 -ℤ s.args.w) (power s)) (pos 0 -ℤ number s) t
     (rw (e, to_z-of_z w64 _ (neg_fits (number s) (number_few s)), to_z-of_z w64 s.args.w s.ranges.w, shifted _ (power s) (negated_fits s)) at h)
 
-floors : (s : Start) → place_at s.args.lo s.args.hi s.args.w (power s)
-    ≡ by_floors s.args.lo s.args.hi (floor_div s.args.w (power s)) (floor_div (pos 0 -ℤ s.args.w) (power s)) (floor_div (pos 2 *ℤ s.args.w) (power s))
-floors s = by_floors_lem s.args.lo s.args.hi s.args.w (power s) (pow_pos s.args.s)
+floors : (s : Start) → place_at s.args.self.low s.args.self.high s.args.w (power s)
+    ≡ by_floors s.args.self.low s.args.self.high (floor_div s.args.w (power s)) (floor_div (pos 0 -ℤ s.args.w) (power s)) (floor_div (pos 2 *ℤ s.args.w) (power s))
+floors s = by_floors_lem s.args.self.low s.args.self.high s.args.w (power s) (pow_pos s.args.s)
 
 abbrev at : Remark → ℤ → Option Place
 at m z = Some (record { number = z; remark = m })
 
-pub returns-then-floor-lo : goal.returns-then-floor-lo
-returns-then-floor-lo c =
-    let s = c.before in
-    elim c.then-floor-lo.branch [
-      | then-floor-lo-via-then-floor-lo w ↦ rw (floors s, low s true w.if-floor-lo.true)
-      | then-floor-lo-via-else-floor-lo+then-minus_ceiling-hi w ↦ rw (floors s, low s false w.if-floor-lo.false, high s true w.if-minus_ceiling-hi.true)
+pub returns-then-floor-from : goal.returns-then-floor-from
+returns-then-floor-from c =
+    let s = (goal.at.returns-then-floor-from c).Start in
+    elim c.then-floor-from.branch [
+      | then-floor-from-via-then-floor-from w ↦ rw (floors s, low s c.from.result true c.from.ensures w.if-floor-from.true)
+      | then-floor-from-via-else-floor-from+then-minus_ceiling-from w ↦ rw (
+        floors s,
+        low s c.from.result false c.from.ensures w.if-floor-from.false,
+        high s w.from-else-floor-from.result true w.from-else-floor-from.ensures w.if-minus_ceiling-from.true,
+      )
     ]
 
 pub returns-then-floor-number : goal.returns-then-floor-number
 returns-then-floor-number c =
-    let s = c.before.before.before in
-    rw (floors s, low s false c.if-floor-lo.false, high s false c.if-minus_ceiling-hi.false, reached s _ true (number_is s) c.if-floor-number.true)
+    let s = (goal.at.returns-then-floor-number c).Start in
+    rw (
+      floors s,
+      low s c.from.result false c.from.ensures c.if-floor-from.false,
+      high s c.from-else-floor-from.result false c.from-else-floor-from.ensures c.if-minus_ceiling-from.false,
+      reached s _ true (number_is s) c.if-floor-number.true,
+    )
     (ap (at Below) (number_is s))
 
 pub returns-then-minus_ceiling-number : goal.returns-then-minus_ceiling-number
 returns-then-minus_ceiling-number c =
-    let s = c.before.before.before.before in
-    rw (floors s, low s false c.if-floor-lo.false, high s false c.if-minus_ceiling-hi.false, reached s _ false (number_is s) c.if-floor-number.false, passed s _ true (number_is s) c.if-minus_ceiling-number.true)
+    let s = (goal.at.returns-then-minus_ceiling-number c).Start in
+    rw (
+      floors s,
+      low s c.from.result false c.from.ensures c.if-floor-from.false,
+      high s c.from-else-floor-from.result false c.from-else-floor-from.ensures c.if-minus_ceiling-from.false,
+      reached s _ false (number_is s) c.if-floor-number.false,
+      passed s _ true (number_is s) c.if-minus_ceiling-number.true,
+    )
     (ap (at Above) (number_is s))
 
 pub returns-else-minus_ceiling-number : goal.returns-else-minus_ceiling-number
 returns-else-minus_ceiling-number c =
-    let s = c.before.before.before.before in
-    rw (floors s, low s false c.if-floor-lo.false, high s false c.if-minus_ceiling-hi.false, reached s _ false (number_is s) c.if-floor-number.false, passed s _ false (number_is s) c.if-minus_ceiling-number.false)
+    let s = (goal.at.returns-else-minus_ceiling-number c).Start in
+    rw (
+      floors s,
+      low s c.from.result false c.from.ensures c.if-floor-from.false,
+      high s c.from-else-floor-from.result false c.from-else-floor-from.ensures c.if-minus_ceiling-from.false,
+      reached s _ false (number_is s) c.if-floor-number.false,
+      passed s _ false (number_is s) c.if-minus_ceiling-number.false,
+    )
     (ap (at On) (number_is s))

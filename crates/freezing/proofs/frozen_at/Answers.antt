@@ -1,13 +1,13 @@
--- `freezing::phase_at` meets its contract: on the line that is tried first or above it there is no ice, and below it the freezing point itself is asked.
+-- `freezing::frozen_at` meets its contract: on the line that is tried first or above it there is no ice, and below it the freezing point itself is asked.
 -- Assumes nothing.
-use mathlib.Core.Path.{◌≡◌, sym, ap, ap₂, ◌∙◌, subst}
-use mathlib.Core.Bool.{true, false}
+use mathlib.Core.Path.{◌≡◌, refl, sym, ap, ap₂, ◌∙◌, subst}
+use mathlib.Core.Bool.{Bool, false, not}
 use Prim.Native.Nat.{ℕ, ◌+◌, ◌*◌, ◌≤◌, ◌^◌, ◌<◌}
 use native.Mathlib.Omega.{arith}
 use native.Mathlib.Nat.{mul-le-mul, mul-le-mul_left}
 use lib.Dec.{T}
 use lib.IntN.{ℤ, pos, nat_abs, neg_ℤ, ◌*ℤ◌, ◌-ℤ◌}
-use lib.Signed.{le_z, le_z_yes}
+use lib.Signed.{lt_z, lt_z_no}
 use mir.Syntax.{w64}
 use mir.Val.{SFits}
 use mir.ValLaws.{to_z-of_z}
@@ -16,11 +16,10 @@ use Rattle.whole.specs.Order.{Lies}
 use Rattle.whole.proofs.Ints.{size_is, add_is, sub_is, mul_size, mul_plus, mul_minus, of_≤ℤ, below_minus, above_plus, neg_plus, neg_minus}
 use Rattle.whole.proofs.Words.{word, given, fits_size, word_as}
 use Rattle.whole.proofs.Naturals.{natural}
-use Rattle.freezing.specs.declared.Phase.TheVariants.{Liquid}
-use Rattle.freezing.specs.Ice.{ice_at, warmth, phase_of}
+use Rattle.freezing.specs.Ice.{ice_at, warmth, frozen_of}
 use Rattle.freezing.proofs.Phases.{above_line}
-use Rattle.freezing.proofs.phase_at.Goals.{After-point_at, Start}
-use Rattle.freezing.proofs.phase_at.Goals as goal
+use Rattle.freezing.proofs.frozen_at.Goals.{Start}
+use Rattle.freezing.proofs.frozen_at.Goals as goal
 
 -- ---- the numbers of the test, each through its word
 product_fits : (a z : ℤ) (n m : ℕ) → nat_abs a ≤ n → nat_abs z ≤ m → n * m < 2 ^ 62 → SFits w64 (a *ℤ z)
@@ -80,9 +79,9 @@ module _ (b : Start) where
       ))
 
 -- on the line or above it
-on_line : (σ τ π : ℤ) → Lies (pos 0) (pos 42_000) σ → Lies (pos 0) (pos 100_000) π → le_z (line σ π) (warmth τ) ≡ true → Liquid ≡ phase_of (plus σ) τ (plus π)
+on_line : (σ τ π : ℤ) → Lies (pos 0) (pos 42_000) σ → Lies (pos 0) (pos 100_000) π → lt_z (warmth τ) (line σ π) ≡ false → false ≡ frozen_of (plus σ) τ (plus π)
 on_line σ τ π s d e =
-    let l = of_≤ℤ (line σ π) (warmth τ) (le_z_yes (subst T (sym e) tt)) in
+    let l = of_≤ℤ (line σ π) (warmth τ) (lt_z_no (subst (λ (b : Bool). T (not b)) (sym e) tt)) in
     let x = neg 54_105 *ℤ σ in
     let y = pos 75_300 *ℤ π in
     sym
@@ -101,27 +100,15 @@ on_line σ τ π s d e =
       (natural d).whole,
     )))
 
-pub returns-then-sigma-pi : goal.returns-then-sigma-pi
-returns-then-sigma-pi c =
-    let b = c.before in
-    let e : le_z (line b.args.sigma b.args.pi) (warmth b.args.tau) ≡ true = rw (word_as (line_is b) (line-fits b), word_as (warmth_is b) (warmth-fits b)) at c.if-sigma-pi.true in
-    on_line b.args.sigma b.args.tau b.args.pi b.requires.salinity b.requires.pressure e
+pub returns-else-warmth-sigma : goal.returns-else-warmth-sigma
+returns-else-warmth-sigma c =
+    let b = (goal.at.returns-else-warmth-sigma c).Start in
+    let e : lt_z (warmth b.args.tau) (line b.args.sigma b.args.pi) ≡ false = rw (word_as (line_is b) (line-fits b), word_as (warmth_is b) (warmth-fits b)) at c.if-warmth-sigma.false in
+    c.if-warmth-sigma.false ∙ on_line b.args.sigma b.args.tau b.args.pi b.requires.salinity b.requires.pressure e
 
-point_is : (c : After-point_at) → word c.point_at.result ≡ ice_at (plus c.args.sigma) (plus c.args.pi)
-point_is c =
-    let b = c.before.before in
-    given c.point_at.type_inv (c.point_at.ensures ∙ ap₂ (λ (x y : ℤ). ice_at (plus x) (plus y)) (to_z-of_z w64 b.args.sigma b.ranges.sigma) (to_z-of_z w64 b.args.pi b.ranges.pi))
-
-pub returns-then-point_at-warmth : goal.returns-then-point_at-warmth
-unfolding phase_of
-returns-then-point_at-warmth c =
-    let b = c.before.before.before in
-    let e : le_z (ice_at (plus b.args.sigma) (plus b.args.pi)) (warmth b.args.tau) ≡ true = rw (point_is c.before, word_as (warmth_is b) (warmth-fits b)) at c.if-point_at-warmth.true in
-    rw e
-
-pub returns : goal.returns
-unfolding phase_of
-returns c =
-    let b = c.before.before.before in
-    let e : le_z (ice_at (plus b.args.sigma) (plus b.args.pi)) (warmth b.args.tau) ≡ false = rw (point_is c.before, word_as (warmth_is b) (warmth-fits b)) at c.if-point_at-warmth.false in
-    rw e
+pub returns-then-warmth-sigma : goal.returns-then-warmth-sigma
+unfolding frozen_of
+returns-then-warmth-sigma c =
+    let b = (goal.at.returns-then-warmth-sigma c).Start in
+    let point = ap₂ (λ (x y : ℤ). ice_at (plus x) (plus y)) (to_z-of_z w64 b.args.sigma b.ranges.sigma) (to_z-of_z w64 b.args.pi b.ranges.pi) in
+    rw (given c.point_at.type_inv (c.point_at.ensures ∙ point), word_as (warmth_is b) (warmth-fits b)) refl
