@@ -20,7 +20,7 @@ READ = [p for crate in CRATES.iterdir() for part in ("src", "specs", "proofs") f
 TEXTS = {p: p.read_text(encoding="utf-8") for p in READ}
 LAWS = {p: re.sub(r"(?m)(?:--|//) .*$", "", text) for p, text in TEXTS.items()}  # without comments
 
-INNER = {("whole", "*"), ("freezing", "*"), ("floats", "grid.Range.place"), ("cells", "*"), ("texts", "put_line"), ("pages", "write")}  # they ask for sizes or room, and their callers see to it
+INNER = {("whole", "*"), ("freezing", "*"), ("floats", "grid.Range.place"), ("cells", "*"), ("texts", "put_line")}  # they ask for sizes or room, and their callers see to it
 
 wrong = []
 
@@ -28,6 +28,7 @@ wrong = []
 def hold(fact, otherwise):
     if not fact:
         wrong.append(otherwise)
+    return fact
 
 
 def edits_cited():
@@ -116,32 +117,54 @@ def edits():
     return len(there)
 
 
+def held(crate, path, generic, laws):
+    """The laws over one function's contract: two answers that it allows are equal; and, but for the inner ones, nothing is asked."""
+    alias = re.search(r"use Rattle\.%s\.proofs\.%s\.Reads as (\S+)" % (crate, re.escape(path)), laws)
+    if not hold(alias, f"no law over the contract of {crate}::{path}"):
+        return
+    reads = re.escape(alias[1])
+    if not generic:
+        hold(laws.count(f"{alias[1]}.Learnt κs a r s → {alias[1]}.Learnt κs a r' s'") == 1, f"no law: {crate}::{path}")
+        free = r"(?m)^pub (free_\w+) : [^→]* → %s\.Asked κs a\n\1 κs a = tt$" % reads
+    else:  # its types, and what holds of them, come first; of types that hold no loan nothing is asked
+        told = re.findall(r"(?<=[ (])%s\.Learnt ((?:[a-z] )+)κs a r s → %s\.Learnt \1κs a r' s'" % (reads, reads), laws)
+        hold(len(told) == 1, f"no law: {crate}::{path}")
+        bound = r"(?P<bound>\((?:[a-z] )+: RattleType\)) (?:\((?:[a-z] )+: _\) )?\(κs : Lifetimes\.Lfts \d\) \(a : _\)"
+        free = r"(?m)^pub (free_\w+) : %s → (?P<loans>(?:[a-z]\.lives ≡ \[\] → )+)%s\.Asked ((?:[a-z] )+)κs a\n\1 \4κs a(?: [a-z])+ = " % (bound, reads)
+    if not {(crate, "*"), (crate, path)} & INNER:
+        found = re.search(free, laws)
+        hold(found, f"no law that nothing is asked: {crate}::{path}")
+        if found and generic:
+            types = re.findall(r"[a-z](?= )", found["bound"])
+            hold(re.findall(r"([a-z])\.lives", found["loans"]) == types, f"asked of more than its types: {crate}::{path}")
+
+
 def functions():
-    """Each `pub fn` with the path of its proofs: its module, the type whose method it is, its name."""
+    """Each `pub fn`, and each function by which a trait is kept, with the path of its proofs: its module, the type whose method it is, its name. What keeps
+    `Iterator` or `Layout` promises what the trait says (the page)."""
     count = 0
     for crate in LIBRARIES:
         laws = TEXTS.get(CRATES / crate / "proofs/One.antt", "")
         for source in sorted((CRATES / crate / "src").glob("*.rt")):
             module = "" if source.stem == "lib" else source.stem + "."
-            owner = ""
+            owner, kept = "", ""
             for line in TEXTS[source].splitlines():
-                if found := re.match(r"impl(?:<.*?>)? (\w+)(?:<.*?>)? \{", line):
+                if found := re.match(r"impl(?:<.*?>)? (\w+)(?:<(\w+)>)? for (\w+)", line):
+                    owner = f"{found[3]}{found[1]}{found[2] or ''}."
+                    kept = "" if found[1] in {"Iterator", "Layout"} else rf"`{found[1]}(?:<{found[2]}>)?` for `{found[3]}`"
+                elif found := re.match(r"impl(?:<.*?>)? (\w+)(?:<.*?>)? \{", line):
                     owner = found[1] + "."
+                elif line.startswith("impl"):
+                    hold(False, f"an impl that is not read: {source.relative_to(ROOT)}: {line}")
                 elif line.startswith("}"):
-                    owner = ""
-                elif found := re.match(r'\s*pub (?:extern "C" )?fn (\w+)', line):
+                    owner, kept = "", ""
+                elif found := re.match(r'\s*(pub )?(?:extern "C" )?fn (\w+)(<\w)?', line):
+                    if not found[1] and not kept:
+                        continue
                     count += 1
-                    path = module + owner + found[1]
-                    alias = re.search(r"use Rattle\.%s\.proofs\.%s\.Reads as (\S+)" % (crate, re.escape(path)), laws)
-                    hold(alias, f"no law over the contract of {crate}::{path}")
-                    told = r"(?<=[ (])%s\.Learnt (?:[a-z] )*κs a r s → %s\.Learnt (?:[a-z] )*κs a r' s'"  # a generic function's types come first
-                    hold(not alias or len(re.findall(told % (alias[1], alias[1]), laws)) == 1, f"no law: {crate}::{path}")
-                    if alias and not {(crate, "*"), (crate, path)} & INNER:
-                        asked = r"%s\.Asked (?:[a-z] )*κs a\n\1 (?:[a-z] )*κs a" % re.escape(alias[1])  # of types that hold no loan, where they are any types
-                        free = r"(?m)^pub (free_\w+) : .* → (?:%s = tt|(?:[a-z]\.lives ≡ \[\] → )+%s(?: [a-z])+ = .*)$" % (asked, asked.replace("\\1", "\\1"))
-                        hold(re.search(free, laws), f"no law that nothing is asked: {crate}::{path}")
-                    name = found[1].removeprefix("warpsorrel_")
-                    hold(re.search(r"`(?:[\w:]+::|warpsorrel_)?%s`" % name, PAGE), f"a public function that the page does not name: {crate}::{path}")
+                    held(crate, module + owner + found[2], bool(found[3]), laws)
+                    name = kept or r"`(?:[\w:]+::|warpsorrel_)?%s`" % found[2].removeprefix("warpsorrel_")
+                    hold(re.search(name, PAGE), f"a public function that the page does not name: {crate}::{found[2]}")
     return count
 
 

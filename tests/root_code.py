@@ -6,8 +6,8 @@
 As written: in the steps of crates/whole/specs/Paper.antt, past the shifts themselves, and in the code of crates/whole/src/lib.rt, from Trial to root, no
 number is multiplied, divided or raised to a power; contracts and comments aside.
 
-As linked: the root's code begins where the leading zeros of a number are counted, which nothing else in the archive does but the count of a decimal's digits,
-a function of its own, and ends with the jump back of the loop that follows. It stands in line in the work of a reading (sea::sounded) and in the call for a root (warpsorrel_root). In each the number is the
+As linked: the root's code begins where the leading zeros of a number are counted, which nothing else in the archive does, and ends with the jump back of
+the loop that follows. It stands in line in the work of a reading (sea::sounded) and in the call for a root (warpsorrel_root). In each the number is the
 product by 100,000, which belongs to the recipe and not to the root, and nothing else; the instructions are those of START and of TRIAL, and 0 put into a
 register; the one jump in the loop is its end. The two loops are the same, registers' names aside, and the numbers that they begin with are made in the
 same way: so the trials that are tried with every salinity are those that a reading goes through. Beside that product the call for a root has no
@@ -24,7 +24,6 @@ TOP = Path(__file__).resolve().parent.parent
 STEPS = TOP / "crates/whole/specs/Paper.antt"
 CODE = TOP / "crates/whole/src/lib.rt"
 PLACES = ["sea::sounded", "warpsorrel_root"]
-DIGITS = "cells::digits"  # of a decimal: by leading zeros too, out of line, so that it is nowhere taken for a root
 LEADING = {"bsr", "lzcnt"}
 TRIAL = {"shr", "add", "sub", "lea", "cmp", "mov", "cmovb", "cmovae", "jne", "nop"}  # shift, add and take away, compare; and what chooses
 START = TRIAL | LEADING | {"shl", "and", "xor", "je", "data16"}  # xor: the place of the leading bit, or nought; and: an even number of places
@@ -140,7 +139,7 @@ def root_of(where, code):
 def check_linked(text):
     found = functions(text)
     counting = sorted(name for name, code in found.items() if any(line[1] in LEADING for line in code))
-    hold(counting == [DIGITS, *PLACES], f"leading zeros are counted in {counting}")
+    hold(counting == PLACES, f"leading zeros are counted in {counting}")
     roots = {where: root_of(where, found[where]) for where in PLACES}
     one, other = roots.values()
     hold(one[2] == other[2], "the loops of a reading's root and of the call for a root differ")

@@ -22,7 +22,7 @@ fn unread(kind: u32) -> Unread
 }
 
 // What a kind, a probe's number and three floats, as a C call has them, stand for. The number is taken with either of a report's two kinds. (`usize`
-// has no `From<u32>`.)
+// has no `From<u32>`. The kind's check is taken apart by `let .. else`, as SPEC wants it.)
 #[tactic(auto, unfolding(crate::specs::Abi::entry_of))]
 pub fn entry_of(kind: u32, probe: u16, salinity: f32, temperature: f32, pressure: f32) -> Entry
     ensures { result ≡ entry_of kind probe salinity temperature pressure }

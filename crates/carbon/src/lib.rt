@@ -1,7 +1,7 @@
 // How much carbon dioxide a water will hold: ln K0 of Weiss (1974), in millionths.
 #![tactic(auto)]
 
-ghost use Rattle.std.specs.Prelude.{◌≡◌, ◌+◌, ◌≤◌, nat_abs};
+ghost use Rattle.std.specs.Prelude.{◌≡◌, ◌+◌, ◌≤◌, pos, nat_abs};
 ghost use Rattle.whole.specs.Arith.{plus, minus, scaled, row_value};
 ghost use Rattle.carbon.specs.Weiss.{rest_terms, odd, ln_t, by_cold, by_log, salts, kelvin, ln_k0};
 ghost use Rattle.carbon.specs.Carbon.{unpressed, solubility_of};
@@ -14,6 +14,13 @@ pub type Solubility = Result<i64, Refusal>;
 
 // ln 3 in 10^-11, from 16 terms of its series.
 const LN3: u64 = 109_861_228_850;
+
+// A temperature from 0 to 40 °C, in thousandths of a kelvin.
+#[derive(Clone, Copy)]
+struct Warmth {
+    number: u64,
+    ghost in_range: { (273_150 ≤ number) × (number ≤ 313_150) },
+}
 
 // The odd series in x/y, four terms, in 10^-11.
 fn odd_series(x: u64, y: u64) -> u64
@@ -32,11 +39,10 @@ fn odd_series(x: u64, y: u64) -> u64
 }
 
 // ln(T/100) for T of n thousandths of a kelvin, from ln 3.
-fn ln_t(n: u64) -> u64
-    requires n_least { 273_150 ≤ n }
-    requires n_most { n ≤ 313_150 }
-    ensures { result ≡ ln_t n }
+fn ln_t(n: Warmth) -> u64
+    ensures { result ≡ ln_t n.number }
 {
+    let n = n.number;
     let twice = 2 * odd_series(n.abs_diff(300_000), n + 300_000);
     if n < 300_000 {
         return LN3 - twice;
@@ -45,20 +51,18 @@ fn ln_t(n: u64) -> u64
 }
 
 // The two terms of the temperature alone.
-fn by_warmth(n: u64) -> u64
-    requires n_least { 273_150 ≤ n }
-    requires n_most { n ≤ 313_150 }
-    ensures { result ≡ by_cold n + by_log n }
+fn by_warmth(n: Warmth) -> u64
+    ensures { result ≡ by_cold n.number + by_log n.number }
 {
-    934_517_000_000_000_000 / n + 233_585 * ln_t(n) / 10_000
+    934_517_000_000_000_000 / n.number + 233_585 * ln_t(n) / 10_000
 }
 
 // What the salinity adds.
-fn by_salt(sigma: i64, n: i64) -> i64
-    requires sigma_small { nat_abs sigma ≤ 42_000 }
-    requires n_small { nat_abs n ≤ 313_150 }
-    ensures { result ≡ scaled (row_value salts n) sigma }
+fn by_salt(sigma: i64, n: Warmth) -> i64
+    requires { nat_abs sigma ≤ 42_000 }
+    ensures { result ≡ scaled (row_value salts (pos n.number)) sigma }
 {
+    let n = whole::signed(n.number);
     let inner = -236_560_000_000 + whole::scaled(47_036_000_000, n);
     let row = 235_170_000_000 + whole::scaled(inner, n);
     whole::scaled(row, sigma)
@@ -72,9 +76,10 @@ fn ln_k0(sigma: i64, tau: i64) -> i64
     requires tau_most { plus tau ≤ 40_000 }
     ensures { result ≡ ln_k0 (plus sigma) (kelvin tau) }
 {
-    let n = whole::unsigned(tau) + 273_150;
+    let number = whole::unsigned(tau) + 273_150;
+    let n = Warmth { number };
     let warmth = whole::signed(by_warmth(n) + 50_000);
-    let salt = by_salt(sigma, whole::signed(n));
+    let salt = by_salt(sigma, n);
     whole::scaled(warmth + salt - 6_024_090_000_000, 1)
 }
 

@@ -1,17 +1,15 @@
 -- Numbers to a base without the bound in their definition: one digit below the base, else the digits of the quotient and one more.
 -- Dividing lowers a number of two digits or more, so the number itself is bound enough. Decimals are to the base 10, words to 256.
 -- Assumes nothing.
-use Prim.Native.Nat.{ℕ, zero, suc, ◌+◌, ◌*◌, ◌/◌, ◌%◌, ◌^◌, ◌≤◌, ◌<◌}
+use Prim.Native.Nat.{ℕ, zero, suc, ◌+◌, ◌/◌, ◌%◌, ◌^◌, ◌≤◌, ◌<◌}
 use mathlib.Core.Path.{◌≡◌, refl, ap, ◌∙◌}
 use mathlib.Core.List.{List, [], ◌∷◌, ◌++◌}
 use mathlib.Core.Bool.{Bool, true, false, cond}
 use native.Mathlib.Omega.{arith}
-use native.Mathlib.Nat.{zero-add, div-one, div-div-eq-div-mul, div-lt_iff_lt-mul}
+use native.Mathlib.Nat.{zero-add, div-one, div-div-eq-div-mul}
 use lib.ListN.{length, length-append}
 use lib.Dec.{ltb}
-use borrow.Author.Tests.{ltb-false, lt-ltb, le-ltb}
-use Rattle.std.specs.Prelude.{Option, Some, None, IfSome, IfNone}
-use Rattle.std.specs.Option.{unwrap_or}
+use borrow.Author.Tests.{ltb-true, ltb-false, lt-ltb, le-ltb}
 use Rattle.cells.specs.Cells.{spelled, decimal, word_text}
 
 -- a base, by which a number that is no digit is lowered
@@ -93,17 +91,24 @@ decimal_split (suc j) n h =
     let t : 10 ≤ n = omega (arith, ten_pos j) in
     omega (arith, decimal_longer n t, decimal_split j (n / 10) (omega arith), ap (λ (k : ℕ). length (decimal k)) e)
 
-pub decimal_long : (j n : ℕ) → 10 ^ j ≤ n → n < 10 ^ suc j → length (decimal n) ≡ suc j
-decimal_long j n h l =
-    let d : n / 10 ^ j < 10 = (div-lt_iff_lt-mul (ten_pos j)).1 (omega arith) in
-    omega (arith, decimal_split j n h, ap length (decimal_small (n / 10 ^ j) d))
+-- a number has a digit, and more than one where it is 10 or more
+pub one_or_more : (n : ℕ) → 1 ≤ length (decimal n)
+one_or_more n = go (ltb n 10) refl
+  where
+    go : (b : Bool) → ltb n 10 ≡ b → 1 ≤ length (decimal n)
+    go true e = omega (arith, ap length (decimal_small n (ltb-true n 10 e)))
+    go false e = omega (arith, decimal_longer n (ltb-false n 10 e))
 
--- as many digits as the logarithm and one; 0 has one, and no logarithm
-pub decimal_log :
-    (n : ℕ) (k : Option ℕ) →
-    IfNone k (n ≡ 0) →
-    IfSome k (λ j. 10 ^ j ≤ n) →
-    IfSome k (λ j. n < 10 * 10 ^ j) →
-    unwrap_or k 0 + 1 ≡ length (decimal n)
-decimal_log n None e h l = omega (arith, ap length (decimal_small n (omega arith)))
-decimal_log n (Some j) e h l = omega (arith, decimal_long j n h (omega arith))
+pub one_digit : (n : ℕ) → length (decimal n) ≤ 1 → n < 10
+one_digit n h = go (ltb n 10) refl
+  where
+    go : (b : Bool) → ltb n 10 ≡ b → n < 10
+    go true e = ltb-true n 10 e
+    go false e = absurd (omega (arith, h, decimal_longer n (ltb-false n 10 e), one_or_more (n / 10)))
+
+pub more_digits : (n : ℕ) → 2 ≤ length (decimal n) → 10 ≤ n
+more_digits n h = go (ltb n 10) refl
+  where
+    go : (b : Bool) → ltb n 10 ≡ b → 10 ≤ n
+    go true e = absurd (omega (arith, h, ap length (decimal_small n (ltb-true n 10 e))))
+    go false e = ltb-false n 10 e

@@ -1,4 +1,5 @@
 pub mod Decimal
+mod Powers
 pub mod Stores
 mod Right
 pub mod Ends

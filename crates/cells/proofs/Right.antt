@@ -3,10 +3,7 @@
 use Prim.Native.Nat.{ℕ, suc, ◌+◌, ◌-◌, ◌/◌, ◌%◌, ◌≤◌, ◌<◌}
 use mathlib.Core.Path.{◌≡◌, refl, sym, ap, ◌∙◌}
 use mathlib.Core.List.{List, [], ◌∷◌}
-use mathlib.Core.Bool.{Bool, true, false}
 use native.Mathlib.Omega.{arith}
-use borrow.Author.Tests.{ltb-true, ltb-false}
-use lib.Dec.{ltb}
 use lib.ListN.{length, set, length-set}
 use lib.Seq.{sets, set_comm}
 use Rattle.cells.specs.Cells.{decimal, Put}
@@ -18,28 +15,6 @@ set_first : (l t : List ℕ) (at j x : ℕ) → at + length t ≤ j → sets (se
 set_first l [] at j x h = refl
 set_first l (y ∷ t) at j x h =
     ap (λ (m : List ℕ). sets m (suc at) t) (set_comm l j at x y (λ e. let z : ◌≡◌ {A = ℕ} 0 1 = omega (arith, e) in absurd (omega arith))) ∙ set_first (set l at y) t (suc at) j x (omega arith)
-
--- a number has a digit, and more than one where it is 10 or more
-one_or_more : (n : ℕ) → 1 ≤ length (decimal n)
-one_or_more n = go (ltb n 10) refl
-  where
-    go : (b : Bool) → ltb n 10 ≡ b → 1 ≤ length (decimal n)
-    go true e = omega (arith, ap length (decimal_small n (ltb-true n 10 e)))
-    go false e = omega (arith, decimal_longer n (ltb-false n 10 e))
-
-pub one_digit : (n : ℕ) → length (decimal n) ≤ 1 → n < 10
-one_digit n h = go (ltb n 10) refl
-  where
-    go : (b : Bool) → ltb n 10 ≡ b → n < 10
-    go true e = ltb-true n 10 e
-    go false e = absurd (omega (arith, h, decimal_longer n (ltb-false n 10 e), one_or_more (n / 10)))
-
-pub more_digits : (n : ℕ) → 2 ≤ length (decimal n) → 10 ≤ n
-more_digits n h = go (ltb n 10) refl
-  where
-    go : (b : Bool) → ltb n 10 ≡ b → 10 ≤ n
-    go true e = absurd (omega (arith, h, ap length (decimal_small n (ltb-true n 10 e))))
-    go false e = ltb-false n 10 e
 
 pub record Right (n : ℕ) (buf₀ : List ℕ) (at : ℕ) (buf : List ℕ) (i m : ℕ) : Type 0 where
   pub here : i ≡ at + length (decimal m)

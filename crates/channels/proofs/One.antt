@@ -2,7 +2,7 @@
 -- dropped clause breaks these laws. Assumes nothing.
 use mathlib.Core.Path.{◌≡◌, sym, ◌∙◌}
 use contract.Lifetimes
-use Rattle.channels.proofs.Stop.number.Reads as stop-number
+use Rattle.channels.proofs.StopReason.number.Reads as stop-number
 use Rattle.channels.proofs.water.Reads as channel-water
 
 pub one_stop_number : (κs : Lifetimes.Lfts 0) (a : _) (r r' : _) (s s' : _) → stop-number.Learnt κs a r s → stop-number.Learnt κs a r' s' → r ≡ r'

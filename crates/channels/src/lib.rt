@@ -27,23 +27,15 @@ pub enum Stop {
     SameProbe,
 }
 
-impl Stop {
-    pub fn number(self) -> u32
-        ensures { result ≡ stop_number self }
-    {
+impl Reason for Stop {
+    ghost numbered = { stop_number };
+
+    fn number(self) -> u32 {
         match self {
             Stop::Left(why) => 100 + why.number(),
             Stop::Right(why) => 200 + why.number(),
             Stop::SameProbe => Refusal::SameProbe.number(),
         }
-    }
-}
-
-impl Reason for Stop {
-    ghost numbered = { stop_number };
-
-    fn number(self) -> u32 {
-        Stop::number(self)
     }
 }
 

@@ -5,7 +5,7 @@ ghost use Rattle.std.specs.Prelude.{◌≤◌, length};
 
 use std::io::Read;
 
-// The buffer holds more than the 60,000 bytes of the longest stream that has a table: what lies past it makes no difference.
+// The buffer holds more than the 60,000 bytes of the longest stream that has a table: what lies past it makes no difference. (Fixed buffers, as in `sheet`.)
 fn main(rt: HostRuntime) {
     let mut input = [0u8; 65_536];
     let n = read_whole(&mut rt.stdin(), &mut input);
@@ -13,6 +13,7 @@ fn main(rt: HostRuntime) {
     print(&rt, &input[..n], &mut out);
 }
 
+// A function of its own, over the array by reference: of one of this size in `main` the check runs out of stack at the slice.
 fn print(rt: &impl Print, stream: &[u8], out: &mut [u8; tables::TABLE_ROOM]) {
     let Ok(k) = tables::write_table(stream, out) else {
         return;

@@ -13,7 +13,7 @@ use Rattle.readings.specs.declared.Report.{Report}
 use Rattle.readings.specs.Entry.{message}
 use Rattle.readings.specs.declared.Point.{Point}
 use Rattle.readings.specs.declared.Remarks.{Remarks}
-use Rattle.channels.specs.Answer.{Channel, channel_at}
+use Rattle.channels.specs.Answer.{Channel, Needle, channel_at}
 use Rattle.channels.specs.declared.Stop.{Stop}
 use Rattle.channels.specs.Numbers.{needle_number}
 use Rattle.panel.specs.Panel.{shared_of, needle_of}
@@ -41,12 +41,16 @@ needles d k c j m n = (refl, (refl, (refl, (refl, (refl, refl)))))
 abbrev no : Channel
 no = Err Refusal.Temperature
 
+-- a needle is refused, by what stops it and by its number
+abbrev pub Refuses : Needle → Stop → ℕ → Type 0
+Refuses v s n = (v ≡ Err s) × (needle_number v ≡ n)
+
 -- refused on the left, on the right, on both
 pub no_needles :
     (p : Point) (d k : ℕ) (m : Remarks) (s : Bool) →
-    (needle_number (needle_of no (channel_at p d k m) s) ≡ 104) × ((needle_number (needle_of (channel_at p d k m) no s) ≡ 204)
-    × (needle_number (needle_of (Err Refusal.Missing) no s) ≡ 101))
-no_needles p d k m s = (refl, (refl, refl))
+    Refuses (needle_of no (channel_at p d k m) s) (Stop.Left Refusal.Temperature) 104 × (Refuses (needle_of (channel_at p d k m) no s) (Stop.Right Refusal.Temperature) 204
+    × Refuses (needle_of (Err Refusal.Missing) no s) (Stop.Left Refusal.Missing) 101)
+no_needles p d k m s = ((refl, refl), ((refl, refl), (refl, refl)))
 
 -- both accepted, of one probe
 pub same_probe :

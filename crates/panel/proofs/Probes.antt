@@ -16,6 +16,7 @@ use Rattle.channels.specs.declared.Comparison.{Comparison}
 use Rattle.channels.specs.Numbers.{channel_density, stop_number, needle_number}
 use Rattle.panel.specs.Panel.{channel_of, shared_of, needle_of, comparison_of}
 use Rattle.panel.specs.Probes.{Shares, Accepts, Stops, left_refused, right_refused, one_probe, OnlyStopped, StopsRefuse, StillShown, SwapTurns, SwapKeeps}
+use Rattle.panel.proofs.Cases.{Refuses}
 use Rattle.panel.proofs.Needles.{swapped}
 use Rattle.panel.proofs.Sharing.{shared_means, means_shared, shares_real}
 use Rattle.panel.proofs.Samples.{fresh_of, salt_of, fresh_of_is, salt_of_is, fresh_is, salt_is, nothing_is, needle_is}
@@ -110,11 +111,11 @@ real_swapped = swap_keeps (fresh_of 17) (salt_of 17) one_probe_real.1
 
 -- a side's own refusal first, whatever the numbers
 pub real_stopped :
-    (needle_number (comparison_of (message 17 Report.Missing) (salt_of 17)).needle ≡ 101)
-    × (needle_number (comparison_of (salt_of 17) (message 17 Report.Missing)).needle ≡ 201)
+    Refuses (comparison_of (message 17 Report.Missing) (salt_of 17)).needle (Stop.Left Refusal.Missing) 101
+    × Refuses (comparison_of (salt_of 17) (message 17 Report.Missing)).needle (Stop.Right Refusal.Missing) 201
 real_stopped = (
-  (stops_refuse (message 17 Report.Missing) (salt_of 17) (Stop.Left Refusal.Missing) 101 (left_refused Refusal.Missing (nothing_is 17))).1,
-  (stops_refuse (salt_of 17) (message 17 Report.Missing) (Stop.Right Refusal.Missing) 201 (right_refused Refusal.Missing (salt_accepted 17) (nothing_is 17))).1,
+  stops_refuse (message 17 Report.Missing) (salt_of 17) (Stop.Left Refusal.Missing) 101 (left_refused Refusal.Missing (nothing_is 17)),
+  stops_refuse (salt_of 17) (message 17 Report.Missing) (Stop.Right Refusal.Missing) 201 (right_refused Refusal.Missing (salt_accepted 17) (nothing_is 17)),
 )
 
 pub two_probes_real : (comparison_of (fresh_of 17) (salt_of 18)).needle ≡ Ok (pos 27_708)

@@ -24,7 +24,7 @@ pub fn entered(entry: Entry) -> Checked
     readings::check(message.report)
 }
 
-// The number of a reading's probe; 0 where there is no reading.
+// The number of a reading's probe; 0 where there is no reading, as `probe_of` has it.
 fn probe(entry: Entry) -> u16
     ensures { result ≡ probe_of entry }
 {
@@ -40,7 +40,7 @@ pub fn shares(left: Entry, right: Entry) -> bool
     l != 0 && l == r
 }
 
-// Its pressure; a refused one has none, and does not count.
+// Its pressure; a refused one has none, and does not count: 0, as `pressure_of` has it, is never the greater.
 fn pressure(c: Checked) -> i64
     ensures { result ≡ pressure_of c }
 {

@@ -4,12 +4,14 @@ use mathlib.Core.Path.{◌≡◌, refl}
 use mathlib.Core.Bool.{false, and-true}
 use Rattle.std.specs.Prelude.{Option, Some, None, Ok, Err}
 use Rattle.refusals.specs.declared.Refusal.{Refusal}
-use lib.IntN.{pos}
+use Prim.Native.Nat.{◌^◌, ◌<◌}
+use lib.Dec.{lit<}
+use lib.IntN.{pos, nat_abs}
 use lib.Ieee.{fin}
 use Rattle.floats.specs.Grid.{inside, grid_no, remark_of, place_of}
 use Rattle.floats.specs.declared.Remark.TheVariants.{On}
 use Rattle.floats.specs.declared.Place.{Place}
-use Rattle.readings.specs.Check.{salinities, temperatures, pressures, deep_of, surface_of, given_of, all_finite, finite_of, level_of, level_for, first_outside, placed_for, in_order, checked_for}
+use Rattle.readings.specs.Check.{coldest, salinities, temperatures, pressures, deep_of, surface_of, given_of, all_finite, finite_of, level_of, level_for, first_outside, placed_for, in_order, checked_for}
 use Rattle.readings.specs.declared.Purpose.{Purpose}
 use Rattle.readings.specs.declared.Reading.{Reading}
 use Rattle.readings.specs.declared.Report.{Report}
@@ -52,6 +54,11 @@ of_given w report {r} e = rw (same_finite report r e, e) refl
 pub of_missing : (w : Purpose) (report : Report) → given_of report ≡ None → Err Refusal.Missing ≡ checked_for w report
 unfolding checked_for
 of_missing w report e = rw e refl
+
+-- the cold end of any purpose is far inside what `Range::place` asks of a low end
+pub cold_small : (w : Purpose) → nat_abs (coldest w) < 2 ^ 23
+cold_small Purpose.Density = lit< tt
+cold_small Purpose.Carbon = lit< tt
 
 pub surface_place : place_of pressures (fin false 0 (pos 0)) ≡ Some (record { number = pos 0; remark = On })
 unfolding place_of inside grid_no remark_of

@@ -36,6 +36,7 @@ pub trait Reason: Copy {
         ensures { result ≡ numbered self };
 }
 
+// (By its own function, which stands as it was promised: who has a refusal asks for its number without the trait.)
 impl Reason for Refusal {
     ghost numbered = { number_of };
 

@@ -1,7 +1,7 @@
 -- Grid numbers and small numbers as the code has them: each comes back from its word unchanged, and one that is not negative is
 -- the natural that the recipe speaks of. Assumes nothing.
 use Prim.Native.Nat.{ℕ, zero, suc, ◌*◌, ◌≤◌}
-use mathlib.Core.Path.{◌≡◌, refl, sym, ap, ◌∙◌, subst}
+use mathlib.Core.Path.{◌≡◌, refl, sym, ap, ap₂, ◌∙◌, subst}
 use mathlib.Core.Bool.{Bool, true, false, cond}
 use mathlib.Core.List.{List, [], ◌∷◌, map}
 use native.Mathlib.Omega.{arith}
@@ -50,21 +50,32 @@ pub lies_natural : {m n : ℕ} → m ≤ n → Lies (pos 0) (pos n) (pos m)
 lies_natural {m} {n} h = let z : 0 ≤ m = omega arith in record { low = le_z_yes (le→leb 0 m z); high = le_z_yes (le→leb m n h) }
 
 -- as it comes back from its word
+pub natural_same : {n : ℕ} {z : ℤ} → n ≤ 100_000 → Lies (pos 0) (pos n) z → word z ≡ z
+natural_same {z = z} h l = small_word z (omega (arith, h, (natural l).size))
+
 pub natural_word : {n : ℕ} {z : ℤ} → n ≤ 100_000 → Lies (pos 0) (pos n) z → word z ≡ pos (plus z)
-natural_word {z = z} h l = small_word z (omega (arith, h, (natural l).size)) ∙ (natural l).is
+natural_word h l = natural_same h l ∙ (natural l).is
 
 pub lies_word : {lo hi z : ℤ} → SFits w64 z → Lies lo hi z → Lies lo hi (word z)
 lies_word {lo} {hi} {z} f l = rw (to_z-of_z w64 z f) l
 
 -- ---- what `salted` asks and gives, of small numbers at a salinity and its root
-module _ (x y z σ w : ℤ) (hσ : word σ ≡ pos (plus σ)) (hw : word w ≡ pos (plus w)) (hx : Small x) (hy : Small y) (hz : Small z) where
-  pub salted_asks : plus σ ≤ 42_000 → plus w ≤ 64_807 → Small (y +ℤ scaled z (pos (plus w))) → Salty (word x) (word y) (word z) (word σ) (word w)
-  salted_asks a b c =
-      rw (small_word x hx, small_word y hy, small_word z hz, hσ, hw)
-      (record { base = hx; salt = hy; root = hz; inner = c; by_σ = omega arith; by_w = omega arith })
+module _ (x y z : ℤ) {σ w : ℤ} (hσ : Lies (pos 0) (pos 42_000) σ) (hw : Lies (pos 0) (pos 64_807) w) (hx : Small x) (hy : Small y) (hz : Small z) where
+  pub salted_asks : Small (y +ℤ scaled z (pos (plus w))) → Salty (word x) (word y) (word z) σ w
+  salted_asks h =
+      rw (small_word x hx, small_word y hy, small_word z hz)
+      record {
+        base = hx;
+        salt = hy;
+        root = hz;
+        inner = subst (λ (v : ℤ). Small (y +ℤ scaled z v)) (sym (natural hw).is) h;
+        by_σ = omega (arith, (natural hσ).size);
+        by_w = omega (arith, (natural hw).size);
+      }
 
-  pub salted_gives : word x +ℤ scaled (word y +ℤ scaled (word z) (word w)) (word σ) ≡ x +ℤ scaled (y +ℤ scaled z (pos (plus w))) (pos (plus σ))
-  salted_gives = rw (small_word x hx, small_word y hy, small_word z hz, hσ, hw)
+  pub salted_gives : word x +ℤ scaled (word y +ℤ scaled (word z) w) σ ≡ x +ℤ scaled (y +ℤ scaled z (pos (plus w))) (pos (plus σ))
+  salted_gives =
+      rw (small_word x hx, small_word y hy, small_word z hz) (ap₂ (λ (u v : ℤ). x +ℤ scaled (y +ℤ scaled z u) v) (natural hw).is (natural hσ).is)
 
 -- ---- what the range check shows
 inside : (a b : Bool) → cond a b false ≡ true → T a × T b

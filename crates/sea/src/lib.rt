@@ -130,11 +130,11 @@ fn surface(r: Rows, sigma: Salinity, w: Root) -> i64
 }
 
 // x plus the scaled product by sigma of y plus the scaled product by w of z: the shape of K0 and of A.
-fn salted(x: i64, y: i64, z: i64, sigma: i64, w: i64) -> i64
-    requires { Salty x y z sigma w }
-    ensures { result ≡ x +ℤ scaled (y +ℤ scaled z w) sigma }
+fn salted(x: i64, y: i64, z: i64, sigma: Salinity, w: Root) -> i64
+    requires { Salty x y z sigma.number w.number }
+    ensures { result ≡ x +ℤ scaled (y +ℤ scaled z w.number) sigma.number }
 {
-    whole::step(x, whole::step(y, z, w), sigma)
+    whole::step(x, whole::step(y, z, w.number), sigma.number)
 }
 
 // What the row values and the root make at one salinity.
@@ -143,8 +143,8 @@ fn combined(r: Rows, sigma: Salinity, w: Root) -> Parcel
     ensures { result ≡ the.parcel_of r (plus sigma.number) (plus w.number) }
 {
     let d = surface(r, sigma, w);
-    let k0 = salted(r.Kw, r.Ks, r.Kr, sigma.number, w.number);
-    let a = salted(r.Aw, r.As, r.Ar, sigma.number, w.number);
+    let k0 = salted(r.Kw, r.Ks, r.Kr, sigma, w);
+    let a = salted(r.Aw, r.As, r.Ar, sigma, w);
     let b = whole::step(r.Bw, r.Bs, sigma.number);
     Parcel { d, k0, a, b }
 }
@@ -169,6 +169,7 @@ fn bulk(x: Parcel, pi: Pressure) -> i64
 }
 
 // The shown density, from D and K in units of 10^-9.
+// (By what is asked the cast loses nothing, here and in `pressed`; `try_from` would answer an error that cannot come.)
 fn compressed(d: i64, k: i64, pi: Pressure) -> u32
     requires { Ranges d k (plus pi.number) }
     ensures { result ≡ the.shown d k (plus pi.number) }

@@ -25,15 +25,16 @@ pub(crate) type Pressure = Within<0, 100000>;
 pub(crate) type Root = Within<0, 64807>;
 
 impl<const BELOW: u32, const ABOVE: u32> Within<BELOW, ABOVE> {
-    // The number, if it is in the range. (By `then` it would be made in a closure, which knows nothing of the test; and the checker does not cover one whose result
-    // has the type's constants.)
+    // The number, if it is in the range. (Not by `then`: the checker does not cover a closure whose result has the type's constants, which nothing that it takes
+    // names.)
     pub(crate) fn of(number: i64) -> Option<Self>
         ensures known { is_some result ≡ range_of (neg BELOW) (pos ABOVE) number }
         ensures same { IfSome result (λ z. z.number ≡ number) }
     {
-        let true = within(number, -i64::from(BELOW), i64::from(ABOVE)) else {
-            return None;
-        };
-        Some(Within { number })
+        if within(number, -i64::from(BELOW), i64::from(ABOVE)) {
+            Some(Within { number })
+        } else {
+            None
+        }
     }
 }

@@ -5,7 +5,8 @@ ghost use Rattle.std.specs.Prelude.{◌≤◌, length};
 
 use std::io::Read;
 
-// The buffer holds more than the 60,000 bytes of the longest stream that has a page: what lies past it makes no difference.
+// The buffer holds more than the 60,000 bytes of the longest stream that has a page: what lies past it makes no difference. (Fixed buffers, each with its count
+// beside it: no heap. `details` has a `main` like it, since each is a program's own.)
 fn main(rt: HostRuntime) {
     let mut input = [0u8; 65_536];
     let n = read_whole(&mut rt.stdin(), &mut input);

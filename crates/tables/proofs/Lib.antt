@@ -1,4 +1,5 @@
 pub mod Lettered
+pub mod Rows
 pub mod Widths
 mod Example
 pub mod One

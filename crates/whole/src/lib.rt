@@ -10,6 +10,7 @@ ghost use Rattle.whole.specs.Paper as paper;
 
 // The scaled product of h by x. The offset makes the dividend positive, so that one unsigned division rounds
 // towards minus infinity with no test of a sign.
+// (By what is asked the casts lose nothing, here and in `unsigned` and `signed`; `try_from` would answer an error that cannot come.)
 pub fn scaled(h: i64, x: i64) -> i64
     requires { nat_abs h * nat_abs x ≤ 4_600_000_000_000_000_000 }
     ensures { result ≡ the.scaled h x }

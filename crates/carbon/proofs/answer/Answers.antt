@@ -53,6 +53,7 @@ returns-in_err-taken c =
     handed_on c.from_residual-in_err-taken.ensures ∙ sym (ap dissolved c.in_err-taken.was) ∙ answer_is (goal.at.returns-in_err-taken c).After-check_surface
 
 -- the grid numbers, as they are handed on
+-- (That a found number fits its word has only names that may change: the search finds it.)
 sigma_is : (c : In_ok-taken) → word c.in_ok-taken.taken.at.sigma ≡ c.in_ok-taken.taken.at.sigma
 sigma_is c = to_z-of_z w64 _ (search rules)
 

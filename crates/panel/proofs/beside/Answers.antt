@@ -15,6 +15,7 @@ use Rattle.panel.specs.Pairing.{common_of, side_of, beside_of}
 use Rattle.panel.proofs.beside.Goals.{After-sounding_at}
 use Rattle.panel.proofs.beside.Goals as goal
 
+-- (That a found number fits its word has only names that may change: the search finds it.)
 sounding_is : (c : After-sounding_at) → let t = c.in_ok-taken.taken in c.sounding_at.result ≡ sounding_of t.at.sigma t.at.tau t.at.pi (common_of c.args.one c.args.other)
 sounding_is c =
     let t = c.in_ok-taken.taken in

@@ -19,22 +19,17 @@ sums b = fits b.args.r b.requires _ _ (natural b.args.sigma.in_range).most (natu
 σ_is : (b : Start) → word b.args.sigma.number ≡ pos (plus b.args.sigma.number)
 σ_is b = natural_word (omega arith) b.args.sigma.in_range
 
-w_is : (b : Start) → word b.args.w.number ≡ pos (plus b.args.w.number)
-w_is b = natural_word (omega arith) b.args.w.in_range
-
 pub salted-k0-requires : goal.salted-k0-requires
 salted-k0-requires c =
     let r = c.args.r in
     let s = (goal.at.salted-k0-requires c).Start in
-    salted_asks r.Kw r.Ks r.Kr c.args.sigma.number c.args.w.number (σ_is s) (w_is s) (rows s).Kw (rows s).Ks (rows s).Kr
-    (natural c.args.sigma.in_range).most (natural c.args.w.in_range).most (sums s).kr_sum
+    salted_asks r.Kw r.Ks r.Kr c.args.sigma.in_range c.args.w.in_range (rows s).Kw (rows s).Ks (rows s).Kr (sums s).kr_sum
 
 pub salted-a-requires : goal.salted-a-requires
 salted-a-requires c =
     let r = c.args.r in
     let s = (goal.at.salted-a-requires c).Start in
-    salted_asks r.Aw r.As r.Ar c.args.sigma.number c.args.w.number (σ_is s) (w_is s) (rows s).Aw (rows s).As (rows s).Ar
-    (natural c.args.sigma.in_range).most (natural c.args.w.in_range).most (sums s).ar_sum
+    salted_asks r.Aw r.As r.Ar c.args.sigma.in_range c.args.w.in_range (rows s).Aw (rows s).As (rows s).Ar (sums s).ar_sum
 
 pub step-b-requires-clause-c_small : goal.step-b-requires-clause-c_small
 step-b-requires-clause-c_small c = small_kept c.args.r.Bw (rows (goal.at.step-b-requires-clause-c_small c).Start).Bw
@@ -52,9 +47,9 @@ returns c =
     let a = c.salted-a in
     let d_is : word s.result ≡ surface r (plus c.args.sigma.number) (plus c.args.w.number) = given s.type_inv s.ensures in
     let k_is : word k.result ≡ K0 r (plus c.args.sigma.number) (plus c.args.w.number) =
-    given k.type_inv (k.ensures ∙ salted_gives r.Kw r.Ks r.Kr c.args.sigma.number c.args.w.number (σ_is b) (w_is b) (rows b).Kw (rows b).Ks (rows b).Kr) in
+    given k.type_inv (k.ensures ∙ salted_gives r.Kw r.Ks r.Kr c.args.sigma.in_range c.args.w.in_range (rows b).Kw (rows b).Ks (rows b).Kr) in
     let a-is : word a.result ≡ A r (plus c.args.sigma.number) (plus c.args.w.number) =
-    given a.type_inv (a.ensures ∙ salted_gives r.Aw r.As r.Ar c.args.sigma.number c.args.w.number (σ_is b) (w_is b) (rows b).Aw (rows b).As (rows b).Ar) in
+    given a.type_inv (a.ensures ∙ salted_gives r.Aw r.As r.Ar c.args.sigma.in_range c.args.w.in_range (rows b).Aw (rows b).As (rows b).Ar) in
     let b-is : word c.step-b.result ≡ B r (plus c.args.sigma.number) =
     given c.step-b.type_inv (c.step-b.ensures ∙ step_as (small_word r.Bw (rows b).Bw) (small_word r.Bs (rows b).Bs) (σ_is b)) in
     rw (d_is, k_is, a-is, b-is)

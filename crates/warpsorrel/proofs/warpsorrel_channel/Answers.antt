@@ -8,6 +8,7 @@ use Rattle.abi.specs.Abi.{channel_words}
 use Rattle.abi.proofs.Words.{whole_row}
 use Rattle.warpsorrel.proofs.warpsorrel_channel.Goals as goal
 
+-- (That a row has its length has only names that may change: the search finds it.)
 pub returns-clause-numbers : goal.returns-clause-numbers
 returns-clause-numbers c =
     let row : length c.channel_row.result ≡ 8 = search rules in

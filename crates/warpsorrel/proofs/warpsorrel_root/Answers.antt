@@ -9,6 +9,7 @@ use Rattle.roots.specs.Search.{search_words}
 use Rattle.abi.proofs.Words.{whole_row}
 use Rattle.warpsorrel.proofs.warpsorrel_root.Goals as goal
 
+-- (That a row has its length has only names that may change: the search finds it.)
 pub returns-clause-numbers : goal.returns-clause-numbers
 returns-clause-numbers c =
     let row : length c.root_row.result ≡ 4 = search rules in
