@@ -77,7 +77,7 @@ def columns():
 
 WITH_REMARKS = """place_of remark_of first_outside placed_for in_order checked_for checked_of filled watered_of entered checked_channel channel_of needle_of
 comparison_of channel_number channel_density channel_bulk dissolved solubility_of place_text places_text line_of page_of columns side_text
-sides_of channel_words""".split()
+sides_of channel_words level_of level_for put_together taken_at channel_at side_of beside_of channel_beside side_cells place_cell line_cells""".split()
 
 
 def bare():

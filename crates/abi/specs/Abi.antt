@@ -1,12 +1,15 @@
 -- What the C ABI's numbers stand for.
-use Rattle.std.specs.Prelude.{ℕ, cond, List, [], ◌∷◌, eqb, ℤ, pos, Float, Option, Some, None, Ok, Err}
+use Rattle.std.specs.Prelude.{ℕ, cond, List, [], ◌∷◌, eqb, ℤ, pos, Float, Option, Some, None, Result, Ok, Err}
 use Rattle.refusals.specs.declared.Unread.{Unread}
+use Rattle.refusals.specs.Number.{number_by}
 use Rattle.floats.specs.Grid.{remark_number}
 use Rattle.readings.specs.Entry.{Entry, message}
 use Rattle.kinds.specs.declared.Row.{Row}
 use Rattle.kinds.specs.Kinds.{kind_of, report_of}
 use Rattle.channels.specs.Answer.{Channel}
 use Rattle.channels.specs.declared.Comparison.{Comparison}
+use Rattle.channels.specs.declared.Stop.{Stop}
+use Rattle.abi.specs.declared.Shown.{Shown}
 use Rattle.channels.specs.Numbers.{channel_number, channel_density, channel_bulk, needle_number, needle_value}
 
 -- the ABI's own number: it goes up when a call that was there changes what it takes or what it answers
@@ -54,3 +57,18 @@ found_number None = 0
 abbrev pub found_words : Option Comparison → List ℤ
 found_words (Some x) = pair_words x
 found_words None = pos 0 ∷ pos 0 ∷ pos 0 ∷ pos 0 ∷ pos 0 ∷ pos 0 ∷ pos 0 ∷ pos 0 ∷ []
+
+-- the same of a pair whose needle may be stopped by whatever has a number
+abbrev pub value_or_nought : {E : Type 0} → Result ℤ E → ℤ
+value_or_nought (Ok z) = z
+value_or_nought (Err e) = pos 0
+
+abbrev pub shown_of : Comparison → Shown Stop
+shown_of x = record { left = x.left; right = x.right; needle = x.needle }
+
+abbrev pub shown_words : {E : Type 0} → (E → ℕ) → Option (Shown E) → List ℤ
+shown_words numbered (Some x) =
+    pos (channel_number x.left) ∷ pos (channel_density x.left) ∷ pos (channel_bulk x.left)
+    ∷ pos (channel_number x.right) ∷ pos (channel_density x.right) ∷ pos (channel_bulk x.right)
+    ∷ pos (number_by numbered x.needle) ∷ value_or_nought x.needle ∷ []
+shown_words numbered None = pos 0 ∷ pos 0 ∷ pos 0 ∷ pos 0 ∷ pos 0 ∷ pos 0 ∷ pos 0 ∷ pos 0 ∷ []

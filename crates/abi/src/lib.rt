@@ -3,11 +3,11 @@
 
 ghost use Rattle.std.specs.Prelude.{◌≡◌};
 ghost use Rattle.std.proofs.lemmas.List.Edits.{sets};
-ghost use Rattle.abi.specs.Abi.{unread_of, entry_of, found_words};
+ghost use Rattle.abi.specs.Abi.{unread_of, entry_of, shown_of, shown_words};
 
-use channels::Comparison;
+use channels::{Channel, Comparison, Stop};
 use readings::{Entry, Message};
-use refusals::Unread;
+use refusals::{Reason, Unread};
 
 // Why there is no reading, by a kind that the table does not have. No record has 65,536 plus 6 or 8 for a kind: they stand for one that was refused by 6 or 8.
 // Any other kind is refused by 7, as a record's is.
@@ -36,9 +36,28 @@ pub fn entry_of(kind: u32, probe: u16, salinity: f32, temperature: f32, pressure
     })
 }
 
+// A pair as a call shows it: its needle may be stopped by whatever has a number, as docs/PROMISES.md has it of `put_pair`. (A `Stop` has few of them.)
+#[derive(Clone, Copy)]
+pub struct Shown<E> {
+    pub left: Channel,
+    pub right: Channel,
+    pub needle: Result<i64, E>,
+}
+
+// So a comparison is shown.
+pub fn as_shown(pair: Comparison) -> Shown<Stop>
+    ensures { result ≡ shown_of pair }
+{
+    Shown {
+        left: pair.left,
+        right: pair.right,
+        needle: pair.needle,
+    }
+}
+
 // Refusal, density and bulk modulus of both sides, refusal and value of the needle; noughts where there is no pair.
-pub fn put_pair(found: Option<Comparison>, out: &mut [i64; 8])
-    ensures { out.new ≡ sets out.old 0 (found_words found) }
+pub fn put_pair<E: Reason>(found: Option<Shown<E>>, out: &mut [i64; 8])
+    ensures { out.new ≡ sets out.old 0 (shown_words E.numbered found) }
 {
     *out = match found {
         Some(pair) => [

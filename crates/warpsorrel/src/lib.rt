@@ -214,7 +214,7 @@ pub extern "C" fn warpsorrel_pair(stream: &[u8], before: usize, out: &mut [i64; 
     ensures numbers { out.new ≡ sets out.old 0 (found_words (nth_of (pairs stream.now) before)) }
 {
     let found = streams::nth(stream, before);
-    abi::put_pair(found, out);
+    abi::put_pair(found.map(abi::as_shown), out);
     u32::from(found.is_some())
 }
 

@@ -1,14 +1,21 @@
 -- `abi::put_pair` meets its contract: the row is as long as its words, and each word is the number that its function answers. Assumes nothing.
-use mathlib.Core.Path.{◌∙◌}
+use mathlib.Core.Path.{◌≡◌, refl, ◌∙◌}
+use lib.IntN.{ℤ, pos}
+use Rattle.std.specs.Prelude.{Result, Ok, Err, Some}
+use Rattle.std.specs.Result.{result_unwrap_or}
 use Rattle.whole.proofs.Words.{given}
-use Rattle.channels.proofs.Cases.{value_given}
-use Rattle.abi.specs.Abi.{pair_words}
+use Rattle.abi.specs.Abi.{value_or_nought, shown_words}
 use Rattle.abi.proofs.Words.{whole_row}
 use Rattle.abi.proofs.put_pair.Goals as goal
 
+-- what the library's `unwrap_or(0)` answers
+value_given : {E : Type 0} (v : Result ℤ E) → result_unwrap_or v (pos 0) ≡ value_or_nought v
+value_given (Ok z) = refl
+value_given (Err e) = refl
+
 pub returns-in-Some : goal.returns-in-Some
-returns-in-Some c =
-    let row = whole_row c.args.out.now (pair_words c.in-Some.pair) c.told-out in
+returns-in-Some g c =
+    let row = whole_row c.args.out.now (shown_words g.E.Reason.numbered (Some c.in-Some.pair)) c.told-out in
     rw (
       c.in-Some.is,
       given c.from.type_inv c.from.ensures,
@@ -22,4 +29,4 @@ returns-in-Some c =
     ) cc
 
 pub returns-in-None : goal.returns-in-None
-returns-in-None c = rw c.in-None.is (whole_row c.args.out.now _ c.told-out)
+returns-in-None g c = rw c.in-None.is (whole_row c.args.out.now _ c.told-out)
