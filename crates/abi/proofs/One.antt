@@ -1,9 +1,10 @@
 -- One answer: two answers that a contract allows are equal, and so is afterwards what was lent. `Learnt` is the contract itself, as the checker reads it off the source, so that a
 -- dropped clause breaks these laws. Assumes nothing.
-use mathlib.Core.Path.{◌≡◌, sym, ◌∙◌}
+use mathlib.Core.Path.{◌≡◌, refl, sym, ◌∙◌}
 use mathlib.Core.List.{[], not-mem-nil}
 use contract.Lifetimes
 use denote.RattleType.{RattleType}
+use Rattle.channels.specs.contracts.Stop as Stop
 use Rattle.abi.proofs.entry_of.Reads as entry_of
 use Rattle.abi.proofs.as_shown.Reads as as_shown
 use Rattle.abi.proofs.put_pair.Reads as put-pair
@@ -30,3 +31,7 @@ free_as_shown κs a = tt
 -- (of a reason that holds no loan; what else is asked is that its loans live)
 pub free_put_pair : (u : RattleType) (m g d i j v : _) (κs : Lifetimes.Lfts 2) (a : _) → u.lives ≡ [] → put-pair.Asked u m g d i j v κs a
 free_put_pair u m g d i j v κs a e = λ n h. absurd (not-mem-nil (rw e at h))
+
+-- so of a comparison, whose reason is a `Stop`, nothing is asked
+pub free_put_comparison : (m g d i j v : _) (κs : Lifetimes.Lfts 2) (a : _) → put-pair.Asked Stop.the_row m g d i j v κs a
+free_put_comparison m g d i j v κs a = free_put_pair Stop.the_row m g d i j v κs a refl

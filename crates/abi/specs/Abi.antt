@@ -9,7 +9,7 @@ use Rattle.kinds.specs.Kinds.{kind_of, report_of}
 use Rattle.channels.specs.Answer.{Channel}
 use Rattle.channels.specs.declared.Comparison.{Comparison}
 use Rattle.channels.specs.declared.Stop.{Stop}
-use Rattle.abi.specs.declared.Shown.{Shown}
+use Rattle.abi.specs.declared.ShownPair.{ShownPair}
 use Rattle.channels.specs.Numbers.{channel_number, channel_density, channel_bulk, needle_number, needle_value}
 
 -- the ABI's own number: it goes up when a call that was there changes what it takes or what it answers
@@ -63,10 +63,10 @@ abbrev pub value_or_nought : {E : Type 0} → Result ℤ E → ℤ
 value_or_nought (Ok z) = z
 value_or_nought (Err e) = pos 0
 
-abbrev pub shown_of : Comparison → Shown Stop
+abbrev pub shown_of : Comparison → ShownPair Stop
 shown_of x = record { left = x.left; right = x.right; needle = x.needle }
 
-abbrev pub shown_words : {E : Type 0} → (E → ℕ) → Option (Shown E) → List ℤ
+abbrev pub shown_words : {E : Type 0} → (E → ℕ) → Option (ShownPair E) → List ℤ
 shown_words numbered (Some x) =
     pos (channel_number x.left) ∷ pos (channel_density x.left) ∷ pos (channel_bulk x.left)
     ∷ pos (channel_number x.right) ∷ pos (channel_density x.right) ∷ pos (channel_bulk x.right)

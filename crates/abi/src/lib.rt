@@ -38,17 +38,17 @@ pub fn entry_of(kind: u32, probe: u16, salinity: f32, temperature: f32, pressure
 
 // A pair as a call shows it: its needle may be stopped by whatever has a number, as docs/PROMISES.md has it of `put_pair`. (A `Stop` has few of them.)
 #[derive(Clone, Copy)]
-pub struct Shown<E> {
+pub struct ShownPair<E> {
     pub left: Channel,
     pub right: Channel,
     pub needle: Result<i64, E>,
 }
 
 // So a comparison is shown.
-pub fn as_shown(pair: Comparison) -> Shown<Stop>
+pub fn as_shown(pair: Comparison) -> ShownPair<Stop>
     ensures { result ≡ shown_of pair }
 {
-    Shown {
+    ShownPair {
         left: pair.left,
         right: pair.right,
         needle: pair.needle,
@@ -56,7 +56,7 @@ pub fn as_shown(pair: Comparison) -> Shown<Stop>
 }
 
 // Refusal, density and bulk modulus of both sides, refusal and value of the needle; noughts where there is no pair.
-pub fn put_pair<E: Reason>(found: Option<Shown<E>>, out: &mut [i64; 8])
+pub fn put_pair<E: Reason>(found: Option<ShownPair<E>>, out: &mut [i64; 8])
     ensures { out.new ≡ sets out.old 0 (shown_words E.numbered found) }
 {
     *out = match found {
