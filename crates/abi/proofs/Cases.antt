@@ -4,7 +4,7 @@ use mathlib.Core.Path.{◌≡◌, refl, ap, ◌∙◌}
 use mathlib.Core.List.{[], ◌∷◌}
 use Prim.Native.Nat.{ℕ}
 use borrow.Author.Tests.{ne_eqb}
-use lib.IntN.{ℤ, pos}
+use lib.IntN.{pos}
 use lib.Ieee.{Float}
 use Rattle.std.specs.Prelude.{Some, None, Ok, Err}
 use Rattle.whole.specs.Arith.{neg}
@@ -14,11 +14,12 @@ use Rattle.floats.specs.declared.Remark.TheVariants.{Below, On, Above}
 use Rattle.readings.specs.declared.Report.{Report}
 use Rattle.readings.specs.Entry.{message}
 use Rattle.kinds.proofs.Rows.{no_other}
-use Rattle.channels.specs.Answer.{Channel, channel_at, Needle}
-use Rattle.channels.specs.Numbers.{channel_number, channel_density, channel_bulk, stop_number, needle_number, needle_value}
+use Rattle.channels.specs.Answer.{Channel, channel_at}
+use Rattle.channels.specs.Numbers.{stop_number, needle_number}
+use Rattle.channels.proofs.Cases.{value_given}
 use Rattle.channels.specs.declared.Stop.{Stop}
 use Rattle.channels.specs.declared.Comparison.{Comparison}
-use Rattle.abi.specs.Abi.{entry_by, entry_of, channel_words, comparison_words, found_number, found_words, value_or_nought, shown_of, shown_words}
+use Rattle.abi.specs.Abi.{entry_by, entry_of, channel_words, comparison_words, found_number, found_words, row_words, shown_of, shown_words}
 
 -- the kinds of the header: each of a report's two with any number
 pub six_kinds :
@@ -89,18 +90,8 @@ pub found_numbers : (found_number (Some both) ≡ 1) × (found_number None ≡ 0
 found_numbers = (refl, refl)
 
 -- a comparison is shown as `found_words` has it, whatever it is
-value_same : (v : Needle) → value_or_nought v ≡ needle_value v
-value_same (Ok z) = refl
-value_same (Err s) = refl
-
 pub comparison_shown : (x : Comparison) → shown_words stop_number (Some (shown_of x)) ≡ found_words (Some x)
-comparison_shown x =
-    ap
-    (λ (z : ℤ).
-    pos (channel_number x.left) ∷ pos (channel_density x.left) ∷ pos (channel_bulk x.left)
-    ∷ pos (channel_number x.right) ∷ pos (channel_density x.right) ∷ pos (channel_bulk x.right)
-    ∷ pos (needle_number x.needle) ∷ z ∷ [])
-    (value_same x.needle)
+comparison_shown x = ap (row_words x.left x.right (needle_number x.needle)) (value_given x.needle)
 
 -- and whatever has a number stops a needle by it, a number too that no `Stop` has
 pub any_number :

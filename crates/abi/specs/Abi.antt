@@ -1,5 +1,6 @@
 -- What the C ABI's numbers stand for.
-use Rattle.std.specs.Prelude.{ℕ, cond, List, [], ◌∷◌, eqb, ℤ, pos, Float, Option, Some, None, Result, Ok, Err}
+use Rattle.std.specs.Prelude.{ℕ, cond, List, [], ◌∷◌, eqb, ℤ, pos, Float, Option, Some, None, Ok, Err}
+use Rattle.std.specs.Result.{result_unwrap_or}
 use Rattle.refusals.specs.declared.Unread.{Unread}
 use Rattle.refusals.specs.Number.{number_by}
 use Rattle.floats.specs.Grid.{remark_number}
@@ -43,11 +44,14 @@ abbrev pub comparison_words : Comparison → List ℤ
 comparison_words x = pos (channel_density x.left) ∷ pos (channel_density x.right) ∷ needle_value x.needle ∷ []
 
 -- refusal, density and bulk modulus of the left and of the right, refusal and value of the needle
+abbrev pub row_words : Channel → Channel → ℕ → ℤ → List ℤ
+row_words l r n z =
+    pos (channel_number l) ∷ pos (channel_density l) ∷ pos (channel_bulk l)
+    ∷ pos (channel_number r) ∷ pos (channel_density r) ∷ pos (channel_bulk r)
+    ∷ pos n ∷ z ∷ []
+
 abbrev pub pair_words : Comparison → List ℤ
-pair_words x =
-    pos (channel_number x.left) ∷ pos (channel_density x.left) ∷ pos (channel_bulk x.left)
-    ∷ pos (channel_number x.right) ∷ pos (channel_density x.right) ∷ pos (channel_bulk x.right)
-    ∷ pos (needle_number x.needle) ∷ needle_value x.needle ∷ []
+pair_words x = row_words x.left x.right (needle_number x.needle) (needle_value x.needle)
 
 -- the k-th pair of a stream: 1 and its words, or 0 and noughts where there is none
 abbrev pub found_number : Option Comparison → ℕ
@@ -59,16 +63,9 @@ found_words (Some x) = pair_words x
 found_words None = pos 0 ∷ pos 0 ∷ pos 0 ∷ pos 0 ∷ pos 0 ∷ pos 0 ∷ pos 0 ∷ pos 0 ∷ []
 
 -- the same of a pair whose needle may be stopped by whatever has a number
-abbrev pub value_or_nought : {E : Type 0} → Result ℤ E → ℤ
-value_or_nought (Ok z) = z
-value_or_nought (Err e) = pos 0
-
 abbrev pub shown_of : Comparison → ShownPair Stop
 shown_of x = record { left = x.left; right = x.right; needle = x.needle }
 
 abbrev pub shown_words : {E : Type 0} → (E → ℕ) → Option (ShownPair E) → List ℤ
-shown_words numbered (Some x) =
-    pos (channel_number x.left) ∷ pos (channel_density x.left) ∷ pos (channel_bulk x.left)
-    ∷ pos (channel_number x.right) ∷ pos (channel_density x.right) ∷ pos (channel_bulk x.right)
-    ∷ pos (number_by numbered x.needle) ∷ value_or_nought x.needle ∷ []
-shown_words numbered None = pos 0 ∷ pos 0 ∷ pos 0 ∷ pos 0 ∷ pos 0 ∷ pos 0 ∷ pos 0 ∷ pos 0 ∷ []
+shown_words numbered (Some x) = row_words x.left x.right (number_by numbered x.needle) (result_unwrap_or x.needle (pos 0))
+shown_words numbered None = found_words None

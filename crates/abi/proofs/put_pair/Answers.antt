@@ -1,17 +1,9 @@
 -- `abi::put_pair` meets its contract: the row is as long as its words, and each word is the number that its function answers. Assumes nothing.
-use mathlib.Core.Path.{◌≡◌, refl, ◌∙◌}
-use lib.IntN.{ℤ, pos}
-use Rattle.std.specs.Prelude.{Result, Ok, Err, Some}
-use Rattle.std.specs.Result.{result_unwrap_or}
+use Rattle.std.specs.Prelude.{Some}
 use Rattle.whole.proofs.Words.{given}
-use Rattle.abi.specs.Abi.{value_or_nought, shown_words}
+use Rattle.abi.specs.Abi.{shown_words}
 use Rattle.abi.proofs.Words.{whole_row}
 use Rattle.abi.proofs.put_pair.Goals as goal
-
--- what the library's `unwrap_or(0)` answers
-value_given : {E : Type 0} (v : Result ℤ E) → result_unwrap_or v (pos 0) ≡ value_or_nought v
-value_given (Ok z) = refl
-value_given (Err e) = refl
 
 pub returns-in-Some : goal.returns-in-Some
 returns-in-Some g c =
@@ -25,7 +17,7 @@ returns-in-Some g c =
       given c.from-in-Some-4.type_inv c.from-in-Some-4.ensures,
       given c.from-in-Some-5.type_inv c.from-in-Some-5.ensures,
       given c.from-in-Some-6.type_inv c.from-in-Some-6.ensures,
-      given c.unwrap_or.type_inv (c.unwrap_or.ensures ∙ value_given c.in-Some.pair.needle),
+      given c.unwrap_or.type_inv c.unwrap_or.ensures,
     ) cc
 
 pub returns-in-None : goal.returns-in-None
